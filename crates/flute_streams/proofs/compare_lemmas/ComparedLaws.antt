@@ -1,5 +1,5 @@
 -- What the counts of a comparison say (specs/Compared, src/laws.rt).
-use Rattle.std.proofs.Common.{◌≡◌, ℕ, true, false, cond, Bool, not, ◌&&◌, ◌||◌, ◌==◌, List, []}
+use Rattle.std.proofs.Common.{◌≡◌, ℕ, true, false, cond, Bool, not, ◌&&◌, ◌==◌, List, []}
 use Rattle.std.proofs.Common.{◌∷◌, ◌++◌, refl, sym, ap, ◌∙◌, subst, inl, inr, ◌⊎◌, Option, Some}
 use Rattle.std.proofs.Common.{None, arith, ◌+◌}
 use Rattle.std.specs.Prelude.{map}
@@ -31,10 +31,7 @@ one_of : (b : Bool) (y : Option Fact) (f : Fact)
     ≡ cond b 1 0
 one_of false y f = refl
 one_of true None f = refl
-one_of true (Some g) f = elim (cases_Bool (same_fact f g)) [
-  | inl t ↦ rw t refl
-  | inr n ↦ rw n refl
-]
+one_of true (Some g) f = elim (cases_Bool (same_fact f g)) [ inl t ↦ rw t refl | inr n ↦ rw n refl ]
 
 module _ (a b c x y z : ℕ) where
   three : (n m : ℕ) {p q r s : ℕ} → (a + b) + c ≡ n → (x + y) + z ≡ m → p ≡ a + x → q ≡ b + y
@@ -47,11 +44,7 @@ adds_up q [] others = refl
 adds_up q (f ∷ facts) others =
     let e = one_of (q (address f)) (fact_at others (address f)) f in
     let i = adds_up q facts others in
-    three _
-    _
-    _
-    _ _ _
-    _ _ e i
+    three _ _ _ _ _ _ _ _ e i
     (count_first (λ f. q (address f) && is_alike (fact_at others (address f)) f) f facts)
     (count_first (λ f. q (address f) && is_other _ f) f facts)
     (count_first (λ f. q (address f) && is_lone (fact_at others (address f)) f) f facts)
@@ -71,10 +64,8 @@ none_head p f F e = elim (cases_Bool (p f)) [
   | inr n ↦ n
 ]
 
-none_tail : (p : Fact → Bool) (f : Fact) (F : List Fact) → count_by p (f ∷ F) ≡ 0
-    → count_by p F ≡ 0
-none_tail p f F e =
-    (both_zero _ _ (sym (count_first p f F) ∙ e)).1
+none_tail : (p : Fact → Bool) (f : Fact) (F : List Fact) → count_by p (f ∷ F) ≡ 0 → count_by p F ≡ 0
+none_tail p f F e = (both_zero _ _ (sym (count_first p f F) ∙ e)).1
 
 one_value : (a : Address) (f : Fact) (y : Option Fact) → is_other y f ≡ false
     → joined a (Some f) y ≡ Some f
@@ -123,10 +114,7 @@ same_information_there a (Some f) (Some g) h = elim (cases_Bool _) [
 ]
 
 zero_is : (n : ℕ) → not (n == 0) ≡ false → n ≡ 0
-zero_is n h = elim (cases_Bool _) [
-  | inl t ↦ eqb-true n 0 t
-  | inr u ↦ absurd cc
-]
+zero_is n h = elim (cases_Bool _) [ inl t ↦ eqb-true n 0 t | inr u ↦ absurd cc ]
 
 -- of a listed object nothing differs
 not_apart : (facts others : List Fact) (key : Key) (keys : List Key) → is_listed key keys ≡ true
@@ -168,13 +156,12 @@ module _ (facts others : List Fact) (rises : IsRising facts) where
       → (a : Address) → (fact_at (facts ++ others) a ≡ fact_at facts a)
       ⊎ (fact_at (facts ++ others) a ≡ fact_at others a)
   in_peace rows are none a = elim (cases_Bool (is_listed a.key are.keys)) [
-    | inl l ↦ elim (of_key a (not_apart _ _ _ _ l
-        (ap (λ r. list_any differs r) (sym are.are) ∙ none))) [
+    | inl l ↦ elim
+        (of_key a (not_apart _ _ _ _ l (ap (λ r. list_any differs r) (sym are.are) ∙ none))) [
           | inl p ↦ inl (fact_at-append _ _ a ∙ p)
           | inr p ↦ inr (fact_at-append _ _ a ∙ p)
         ]
-    | inr n ↦
-        let m = or_none (is_named a.key facts) (is_named a.key others) (sym (are.all a.key) ∙ n) in
-        inr (fact_at-append facts others a
-        ∙ ap (λ x. joined a x (fact_at others a)) (none_there a _ m.0))
+    | inr n ↦ let m = or_none (is_named a.key facts) (is_named a.key others)
+        (sym (are.all a.key) ∙ n) in inr (fact_at-append facts others a ∙ ap
+        (λ x. joined a x (fact_at others a)) (none_there a _ m.0))
   ]

@@ -1,6 +1,6 @@
 -- Two streams are compared, one address after another (specs/Compares).
 use Rattle.std.proofs.Common.{◌≡◌, ℕ, true, false, cond, Bool, List, [], ◌∷◌, ◌++◌, refl}
-use Rattle.std.proofs.Common.{sym, ap, ◌∙◌, subst, inl, inr, ◌⊎◌, Option, Some, None, append-nil}
+use Rattle.std.proofs.Common.{sym, ap, ◌∙◌, subst, Option, Some, None, append-nil}
 use Rattle.std.proofs.Common.{append_assoc, length, length-append, arith, zero, suc}
 use Rattle.std.proofs.Common.{◌+◌, ◌<◌, ◌≤◌, ◌^◌}
 use Rattle.std.specs.Prelude.{map}
@@ -15,7 +15,7 @@ use Rattle.flute_parts.specs.Facts.{IsRising, StandAfter}
 use Rattle.flute_streams.specs.Streams.{Behaviour, Gave, GoesOn, IsNew, option_list}
 use Rattle.flute_streams.specs.Behind.{Behind, StandBefore}
 use Rattle.flute_streams.specs.Compared.{row_of}
-use Rattle.flute_streams.specs.Compares.{Counts, ComparedAs, GoesIf, GoesOnBoth, Past, first_goes}
+use Rattle.flute_streams.specs.Compares.{Counts, ComparedAs, GoesIf, GoesOnBoth, first_goes}
 use Rattle.flute_streams.specs.Compares.{second_goes, keys_at, row_at}
 use Rattle.flute_streams.specs.Compares.{StopAs, StopIn, StopsOne, StopsComparing, TellsBefore}
 use Rattle.flute_streams.specs.Counting.{counted, counted_at, meeting_of, meeting_at, lowest_at}
@@ -24,12 +24,11 @@ use Rattle.flute_streams.specs.Counting.{option_row}
 use Rattle.flute_streams.specs.declared.merge.sides.Meeting.{Meeting}
 use Rattle.flute_streams.specs.declared.merge.sides.Row.{Row}
 use Rattle.flute_streams.specs.declared.merge.sides.Side.{Side}
-use Rattle.flute_streams.specs.declared.merge.sides.Side.TheVariants.{Same, Differ, First, Second}
+use Rattle.flute_streams.specs.declared.merge.sides.Side.TheVariants.{Same}
 use Rattle.flute_streams.proofs.streams_lemmas.Before.{before_later, behind_new, rising_after}
 use Rattle.flute_streams.specs.declared.merge.streams_fault.StreamsFault.{StreamsFault}
 use Rattle.flute_streams.specs.declared.merge.streams_fault.StreamsFault.TheVariants.{Input, Write}
 use Rattle.flute_streams.proofs.streams_lemmas.Before.{before_more}
-use Rattle.flute_streams.proofs.streams_lemmas.MinusTurns.{some_length}
 use Rattle.flute_streams.proofs.compare_lemmas.CountedRows.{At, told_few}
 use Rattle.flute_streams.proofs.compare_lemmas.Meetings.{Met, met_of}
 use Rattle.flute_streams.proofs.compare_lemmas.RowsMet.{rows_met}
@@ -37,28 +36,21 @@ use Rattle.flute_streams.proofs.compare_lemmas.RowsMet.{rows_met}
 behind_all : (p : Address) (F : List Fact) (f held : Option Fact) → StandBefore p F → At p f
     → StandAfter p (option_list held) → Behind held (F ++ option_list f)
 behind_all p F f None s d l = tt
-behind_all p F None (Some x) s d l =
-    rw (append-nil F) (before_later p _ F l.0 s)
-behind_all p F (Some f) (Some x) s d l =
-    before_more _ f F (rw d l.0)
-    (before_later p _ F l.0 s)
+behind_all p F None (Some x) s d l = rw (append-nil F) (before_later p _ F l.0 s)
+behind_all p F (Some f) (Some x) s d l = before_more _ f F (rw d l.0) (before_later p _ F l.0 s)
 
 -- one stream goes on, or stays
 
 module _ {S : Type 0} (b : Behaviour S) (start s t : S) (F : List Fact) (f : Option Fact) where
   gave_on : (c : Bool) → Gave b start s F → GoesIf b c s t → f ≡ cond c (b.held s) None
       → Gave b start t (F ++ option_list f)
-  gave_on true v g e =
-      rw e (g.gave _ F v.passes)
-  gave_on false v g e =
-      rw e
-      (rw (append-nil F) (rw g v))
+  gave_on true v g e = rw e (g.gave _ F v.passes)
+  gave_on false v g e = rw e (rw (append-nil F) (rw g v))
 
 after_given : (p : Address) (F : List Fact) (f y : Option Fact) → At p f → (f ≡ None → ⊥)
     → IsRising ((F ++ option_list f) ++ option_list y) → StandAfter p (option_list y)
 after_given p F None y d n r = absurd (n refl)
-after_given p F (Some f) y d n r =
-    rw (← d) (rising_after F f _ r)
+after_given p F (Some f) y d n r = rw (← d) (rising_after F f _ r)
 
 module _ {S : Type 0} (b : Behaviour S) (start s t : S) (F : List Fact) (f : Option Fact) where
   after_on : (p : Address) (c : Bool) → GoesIf b c s t → At p f → (c ≡ true → f ≡ None → ⊥)
@@ -81,9 +73,8 @@ meeting_none (Some f) (Some g) e = absurd (by _ e)
 told_rows : (F G : List Fact) (ks : List Key) → length F < 2 ^ 64 → length G < 2 ^ 64
     → map (told_of F G) ks ≡ map (row_of F G) ks
 told_rows F G [] m n = refl
-told_rows F G (k ∷ ks) m n =
-    ap (λ r. r ∷ map (told_of F G) ks) (told_few F G k m n)
-    ∙ ap (λ l. row_of F G k ∷ l) (told_rows F G ks m n)
+told_rows F G (k ∷ ks) m n = ap (λ r. r ∷ map (told_of F G) ks) (told_few F G k m n) ∙ ap
+    (λ l. row_of F G k ∷ l) (told_rows F G ks m n)
 
 -- how many facts were given, and may still be
 module _ {S : Type 0} (b : Behaviour S) (s t : S) (F : List Fact) (f : Option Fact) where
@@ -101,8 +92,7 @@ module _ {S : Type 0} (b : Behaviour S) (s t : S) (F : List Fact) (f : Option Fa
 
 module _ {S T : Type 0} (a : Behaviour S) (b : Behaviour T) where
   new_gave : {A : Type 0} (c : Behaviour A) (s t : A) → IsNew c s → GoesOn c s t → Gave c s t []
-  new_gave c s t n g =
-      subst (λ h. Gave c s t ([] ++ option_list h)) n.held (g.gave s [] n.passes)
+  new_gave c s t n g = subst (λ h. Gave c s t ([] ++ option_list h)) n.held (g.gave s [] n.passes)
 
   new_few : {A : Type 0} (c : Behaviour A) (s t : A) → GoesOn c s t → 0 + c.most t ≤ c.most s
   new_few c s t g = omega (arith)
@@ -185,10 +175,9 @@ module _ {S T : Type 0} (a : Behaviour S) (b : Behaviour T) where
               c.second_few;
         }
 
-  pub counts_end : {s0 s : S} {t0 t : T} {old told told' : List Row} {row : Option Row}
-      → a.most s0 < 2 ^ 64 → b.most t0 < 2 ^ 64
-      → Counts a b s0 t0 s t old told row → meeting_of (a.held s) (b.held t) ≡ None
-      → told' ≡ told ++ option_row row → ComparedAs a b s0 t0 s t old told'
+  pub counts_end : {s0 s : S} {t0 t : T} {old told told' : List Row} {row : Option Row} → a.most s0
+      < 2 ^ 64 → b.most t0 < 2 ^ 64 → Counts a b s0 t0 s t old told row → meeting_of (a.held s)
+      (b.held t) ≡ None → told' ≡ told ++ option_row row → ComparedAs a b s0 t0 s t old told'
   counts_end {s} {t} {old} {told} {row} few few_others c e is =
       let n = meeting_none (a.held s) (b.held t) e in
       let R = told_of c.all c.others in
@@ -201,8 +190,8 @@ module _ {S T : Type 0} (a : Behaviour S) (b : Behaviour T) where
         second_ends = c.second.ends n.1;
         first_quiet = c.first.fails;
         second_quiet = c.second.fails;
-        first_few = omega arith ;
-        second_few = omega arith ;
+        first_few = omega arith;
+        second_few = omega arith;
         rows = map _ _;
         are = record {
           keys = c.before ++ keys_at c.last;
@@ -227,8 +216,7 @@ module _ {S T : Type 0} (a : Behaviour S) (b : Behaviour T) where
 -- what was told before a stream stopped
 module _ {S T V : Type 0} (a : Behaviour S) (b : Behaviour T) (side : Side)
     (s : S) (t : T) (s' : S) (t' : T) (takes : V → List Row → V → Type 0) (fails : V → V → Type 0) where
-  pub told_before : (old new : V) (rows : List Row) (fault : StreamsFault)
-      → StopsOne a b side s t s' t' fault → takes old rows new
-      → TellsBefore takes fails old new fault
+  pub told_before : (old new : V) (rows : List Row) (fault : StreamsFault) → StopsOne a b side s t
+      s' t' fault → takes old rows new → TellsBefore takes fails old new fault
   told_before old new rows (Input fault) stops taken = (rows, taken)
   told_before old new rows Write stops taken = absurd stops

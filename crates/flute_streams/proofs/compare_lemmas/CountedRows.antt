@@ -40,9 +40,8 @@ zero_plus n = omega arith
 -- one fact more in front
 pub count_first : {X : Type 0} (p : X → Bool) (x : X) (xs : List X)
     → count_by p (x ∷ xs) ≡ cond (p x) 1 0 + count_by p xs
-count_first p x xs =
-    sum_by-append (λ z. cond (p z) 1 0) (x ∷ []) xs
-    ∙ ap (λ n. n + count_by p xs) (zero_plus _)
+count_first p x xs = sum_by-append (λ z. cond (p z) 1 0) (x ∷ []) xs ∙ ap (λ n. n + count_by p xs)
+    (zero_plus _)
 
 -- the value of what is held, at its address and before it
 held_here : (p : Address) (g : Option Fact) → At p g → fact_at (option_list g) p ≡ g
@@ -52,8 +51,7 @@ held_here p (Some g) e = alone-at g p e
 held_off : (p a : Address) (g : Option Fact) → At p g → same_address p a ≡ false
     → fact_at (option_list g) a ≡ None
 held_off p a None e n = fact_at-nil a
-held_off p a (Some g) e n =
-    alone-elsewhere g a (rw e n)
+held_off p a (Some g) e n = alone-elsewhere g a (rw e n)
 
 value_here : (p : Address) (G : List Fact) (g : Option Fact) → StandBefore p G → At p g
     → fact_at (G ++ option_list g) p ≡ g
@@ -62,9 +60,8 @@ value_here p G g s e = before_value p G _ s ∙ held_here p g e
 -- and at other addresses
 value_off : (p a : Address) (G : List Fact) (g : Option Fact) → At p g → same_address p a ≡ false
     → fact_at (G ++ option_list g) a ≡ fact_at G a
-value_off p a G g e n =
-    fact_at-append G _ a ∙ ap (joined a _) (held_off p a g e n)
-    ∙ joined-none a _
+value_off p a G g e n = fact_at-append G _ a ∙ ap (joined a _) (held_off p a g e n) ∙ joined-none a
+    _
 
 -- how much one fact more counts
 abbrev pub one : (Address → Bool) → (Option Fact → Fact → Bool) → Option Fact → Option Fact → ℕ
@@ -98,26 +95,23 @@ module _ (q : Address → Bool) (r : Option Fact → Fact → Bool) where
   tally_held : (p : Address) (G : List Fact) (f g : Option Fact) → StandBefore p G → At p f → At p g
       → tally q r (option_list f) (G ++ option_list g) ≡ one q r f g
   tally_held p G None g s d e = refl
-  tally_held p G (Some f) g s d e =
-      count_first (λ f. q (address f) && r (fact_at (G ++ option_list g) (address f)) f) f []
-      ∙ plus_zero _ ∙ ap (λ v. cond (q (address f) && r v f) 1 0)
-      (rw (← d) at (value_here p G g s e))
+  tally_held p G (Some f) g s d e = count_first
+      (λ f. q (address f) && r (fact_at (G ++ option_list g) (address f)) f) f [] ∙ plus_zero _ ∙ ap
+      (λ v. cond (q (address f) && r v f) 1 0) (rw (← d) at (value_here p G g s e))
 
   module _ {p : Address} {F G : List Fact} {f g : Option Fact} (w : IsNext p F G f g) where
     pub tally_step : tally q r (F ++ option_list f) (G ++ option_list g)
         ≡ tally q r F G + one q r f g
-    tally_step =
-        sum_by-append (λ f. cond (q (address f) && r (fact_at (G ++ option_list g) (address f)) f) 1 0)
-        F (option_list f)
-        ∙ ap (λ n. n + tally q r (option_list f) (G ++ option_list g))
-        (tally_before p F G g w.early w.at_others)
-        ∙ ap (λ n. tally q r F G + n) (tally_held p G f g w.early_others w.at w.at_others)
+    tally_step = sum_by-append
+        (λ f. cond (q (address f) && r (fact_at (G ++ option_list g) (address f)) f) 1 0) F
+        (option_list f) ∙ ap (λ n. n + tally q r (option_list f) (G ++ option_list g))
+        (tally_before p F G g w.early w.at_others) ∙ ap (λ n. tally q r F G + n)
+        (tally_held p G f g w.early_others w.at w.at_others)
 
   -- nothing is counted of other addresses
   pub one_off : (p : Address) (f g : Option Fact) → At p f → q p ≡ false → one q r f g ≡ 0
   one_off p None g d e = refl
-  one_off p (Some f) g d e =
-      ap (λ b. cond (b && r g f) 1 0) (rw (← d) at e)
+  one_off p (Some f) g d e = ap (λ b. cond (b && r g f) 1 0) (rw (← d) at e)
 
   pub one_on : (p : Address) (f : Fact) (g : Option Fact) → address f ≡ p → q p ≡ true
       → one q r (Some f) g ≡ cond (r g f) 1 0
@@ -223,14 +217,12 @@ at_information p i = λ j. record { key = p.key; part = i j }
 
 module _ {p : Address} {F G : List Fact} {f g : Option Fact} (w : IsNext p F G f g) where
   -- what both have at other addresses stays
-  side_off : (a : Address) → same_address p a ≡ false
-      → side_at (fact_at (F ++ option_list f) a) (fact_at (G ++ option_list g) a)
-      ≡ side_at (fact_at F a) (fact_at G a)
+  side_off : (a : Address) → same_address p a ≡ false → side_at (fact_at (F ++ option_list f) a)
+      (fact_at (G ++ option_list g) a) ≡ side_at (fact_at F a) (fact_at G a)
   side_off a n = rw (value_off p a F f w.at n, value_off p a G g w.at_others n)
 
-  side_here : (f ≡ None → g ≡ None → ⊥)
-      → side_at (fact_at (F ++ option_list f) p) (fact_at (G ++ option_list g) p)
-      ≡ Some (side_of f g)
+  side_here : (f ≡ None → g ≡ None → ⊥) → side_at (fact_at (F ++ option_list f) p)
+      (fact_at (G ++ option_list g) p) ≡ Some (side_of f g)
   side_here n = rw (value_here p F f w.early w.at, value_here p G g w.early_others w.at_others)
       (side_is f g n)
 
@@ -241,9 +233,8 @@ module _ {p : Address} {F G : List Fact} {f g : Option Fact} (w : IsNext p F G f
       (sides_off (is_symbol_of k) w (off (same_key k p.key) (not (is_info p.part)) n))
 
   -- the row of this object counts one more
-  pub told_here : (f ≡ None → g ≡ None → ⊥)
-      → told_of (F ++ option_list f) (G ++ option_list g) p.key
-      ≡ counted (told_of F G p.key) record { at = p; side = side_of f g }
+  pub told_here : (f ≡ None → g ≡ None → ⊥) → told_of (F ++ option_list f) (G ++ option_list g)
+      p.key ≡ counted (told_of F G p.key) record { at = p; side = side_of f g }
   told_here n = by_part p.part refl
     where
       on : {x : Part} → p.part ≡ x → is_symbol_of p.key p ≡ not (is_info x)
@@ -300,13 +291,11 @@ small n m l h = omega arith
 
 small_tally : (q : Address → Bool) (r : Option Fact → Fact → Bool) (F G : List Fact)
     → length F < 2 ^ 64 → capped (tally q r F G) ≡ tally q r F G
-small_tally q r F G h =
-    small _ _ (count_by-le-length _ F) h
+small_tally q r F G h = small _ _ (count_by-le-length _ F) h
 
 pub told_few : (F G : List Fact) (k : Key) → length F < 2 ^ 64 → length G < 2 ^ 64
     → told_of F G k ≡ row_of F G k
 told_few F G k m n =
     let q = is_symbol_of k in
-    rows_same _ _ refl refl (sides _ _
-    (small_tally q is_alike F G m) (small_tally q is_other F G m) (small_tally q is_lone F G m)
-    (small_tally q is_lone G F n))
+    rows_same _ _ refl refl (sides _ _ (small_tally q is_alike F G m) (small_tally q is_other F G m)
+    (small_tally q is_lone F G m) (small_tally q is_lone G F n))

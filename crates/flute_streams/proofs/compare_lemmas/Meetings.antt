@@ -2,7 +2,6 @@
 use Rattle.std.proofs.Common.{◌≡◌, true, false, cond, Bool, List, ◌++◌, refl}
 use Rattle.std.proofs.Common.{sym, ap, ◌∙◌, Option, Some, None}
 use Rattle.std.proofs.Common.{is_eq}
-use Rattle.std.proofs.lemmas.Bool.{false≢true}
 use Rattle.std.proofs.lemmas.Option.{none-some, same_Some}
 use Rattle.std.specs.declared.cmp.Ordering.{Ordering}
 use Rattle.std.specs.declared.cmp.Ordering.TheVariants.{Less, Equal, Greater}
@@ -111,26 +110,19 @@ module _ (f g : Fact) (m : Meeting) (all others : List Fact) where
       → meeting_at (lowest_at o f g).0 (lowest_at o f g).1 ≡ Some m → StandBefore (address g) all
       → StandBefore (address f) others → StandBefore (address f) all
       → StandBefore (address g) others → Met (Some f) (Some g) m all others
-  by_order Less l e a b c d =
-      rw (← same_Some _ m e)
-      (of_first f (Some g) all others (l, tt) c b)
-  by_order Equal l e a b c d =
-      rw (← same_Some _ m e)
+  by_order Less l e a b c d = rw (← same_Some _ m e) (of_first f (Some g) all others (l, tt) c b)
+  by_order Equal l e a b c d = rw (← same_Some _ m e)
       (of_both f g all others (address_same (address f) (address g) (ap is_eq l)) c d)
-  by_order Greater l e a b c d =
-      rw (← same_Some _ m e)
-      (of_second (Some f) g all others
-      (turned (address f) (address g) l, tt) a d)
+  by_order Greater l e a b c d = rw (← same_Some _ m e)
+      (of_second (Some f) g all others (turned (address f) (address g) l, tt) a d)
 
 module _ (m : Meeting) (all others : List Fact) where
   pub met_of : (h k : Option Fact) → meeting_of h k ≡ Some m → Behind k all → Behind h others
       → IsRising (all ++ option_list h) → IsRising (others ++ option_list k) → Met h k m all others
   met_of None None e b c r t = absurd (none-some m e)
-  met_of (Some f) None e b c r t =
-      rw (← same_Some _ m e)
+  met_of (Some f) None e b c r t = rw (← same_Some _ m e)
       (of_first f None all others tt (rising_before all f r) c)
-  met_of None (Some g) e b c r t =
-      rw (← same_Some _ m e)
+  met_of None (Some g) e b c r t = rw (← same_Some _ m e)
       (of_second None g all others tt b (rising_before others g t))
   met_of (Some f) (Some g) e b c r t =
       by_order f g m all others (address_cmp (address f) (address g)) refl e b

@@ -1,8 +1,7 @@
 -- The keys of rows, as one address more is counted (specs/Compared).
 use Rattle.std.proofs.Common.{◌≡◌, true, false, Bool, ◌||◌, List, [], ◌∷◌, ◌++◌, refl}
-use Rattle.std.proofs.Common.{sym, ap, ◌∙◌, Option, Some, None}
+use Rattle.std.proofs.Common.{ap, ◌∙◌, Option, Some, None}
 use Rattle.std.proofs.Common.{is_eq}
-use Rattle.std.proofs.lemmas.Bool.{false≢true}
 use Rattle.std.proofs.lemmas.List.Folds.{list_any-append}
 use Rattle.std.specs.declared.cmp.Ordering.{Ordering}
 use Rattle.std.specs.declared.cmp.Ordering.TheVariants.{Less, Equal, Greater}
@@ -51,10 +50,8 @@ rise_more x k (y ∷ ks) r l = (
 pub not_listed : (k x : Key) (ks : List Key) → KeysRise (ks ++ x ∷ []) → key_cmp x k ≡ Less
     → is_listed k (ks ++ x ∷ []) ≡ false
 not_listed k x [] r l = ap (λ b. b || false) (keys_apart x k l)
-not_listed k x (y ∷ ks) r l =
-    ap (λ b. b || is_listed k (ks ++ x ∷ []))
-    (keys_apart y k (key_total.trans y x k (after_last y x ks r.0) l))
-    ∙ not_listed k x ks r.1 l
+not_listed k x (y ∷ ks) r l = ap (λ b. b || is_listed k (ks ++ x ∷ []))
+    (keys_apart y k (key_total.trans y x k (after_last y x ks r.0) l)) ∙ not_listed k x ks r.1 l
 
 pub or_nil : (a : Bool) → (a || false) ≡ a
 or_nil true = refl
@@ -64,8 +61,7 @@ or_nil false = refl
 held_named : (key : Key) (p : Address) (f : Option Fact) → At p f → (f ≡ None → ⊥)
     → is_named key (option_list f) ≡ same_key key p.key
 held_named key p None d n = absurd (n refl)
-held_named key p (Some f) d n =
-    or_nil _ ∙ ap (λ a. same_key key a.key) d
+held_named key p (Some f) d n = or_nil _ ∙ ap (λ a. same_key key a.key) d
 
 module _ (key : Key) (p : Address) where
   pub named_step : (F G : List Fact) (f g : Option Fact) → At p f → At p g → (f ≡ None → g ≡ None
@@ -106,6 +102,4 @@ module _ (key : Key) (p : Address) where
 
 pub listed_more : (key k : Key) (ks : List Key)
     → is_listed key (ks ++ k ∷ []) ≡ (is_listed key ks || same_key key k)
-listed_more key k ks =
-    list_any-append _ ks _
-    ∙ ap (λ b. is_listed key ks || b) (or_nil _)
+listed_more key k ks = list_any-append _ ks _ ∙ ap (λ b. is_listed key ks || b) (or_nil _)

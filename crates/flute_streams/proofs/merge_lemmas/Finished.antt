@@ -120,8 +120,7 @@ module _ {S : Type 0} (b : Behaviour S) where
   pub tell-more : (k : ℕ) (start : List S) (s : S) → TellBefore b k start → slice_get start k ≡ Some
       s → (F : List Fact) × b.tells s F → TellBefore b (suc k) start
   tell-more zero [] s h e t = absurd cc
-  tell-more zero (x ∷ start) s h e t =
-      (rw (same_Some x s e) t, tt)
+  tell-more zero (x ∷ start) s h e t = (rw (same_Some x s e) t, tt)
   tell-more (suc k) [] s h e t = absurd h
   tell-more (suc k) (x ∷ start) s h e t = (h.0, tell-more k start s h.1 e t)
 
@@ -141,9 +140,8 @@ module _ {S : Type 0} (b : Behaviour S) where
   reached-more {n} {k} {old} l r len others told = record {
     as_many = len ∙ r.as_many;
     behind = search rules;
-    told = λ start g. let a = gave_at n k _ _ g l in rw
-        (← one_more k) (tell-more k _ _ (r.told _ g) a.was
-        (told _ a.stream a.given (r.behind k (omega arith) ∙ a.is) a.gave));
+    told = λ start g. let a = gave_at n k _ _ g l in rw (← one_more k) (tell-more k _ _
+        (r.told _ g) a.was (told _ a.stream a.given (r.behind k (omega arith) ∙ a.is) a.gave));
   }
 
   pub reached-stop : {n k : ℕ} {old now new : List S} {f : LoadFault} → k < n → Reached n k old now
@@ -157,7 +155,7 @@ module _ {S : Type 0} (b : Behaviour S) where
   -- one that stopped in a merge
   pub has-stopped : (k : ℕ) (f : LoadFault) (old now : List S) (s : S) → slice_get old k ≡ Some s →
       b.stops s f → OneFails b k f old now → HasStopped b old now (record { number = k; fault = f })
-  has-stopped zero f (x ∷ old) (t ∷ now) s e h o = grind (arith)
+  has-stopped zero f (x ∷ old) (t ∷ now) s e h o = grind arith
   has-stopped (suc k) f (x ∷ old) (t ∷ now) s e h o =
       let r = has-stopped k f old now s e h o.1 in
       record { new = r.new; was = r.was; stop = search rules }
@@ -180,8 +178,7 @@ cut_journal u v facts count cut e p =
     record {
       bytes = part.part;
       appended = part.appended;
-      no_journal = no_whole_end _ _ _ p.journal.1.valid part.cut
-          (sym part.whole ∙ p.journal.3);
+      no_journal = no_whole_end _ _ _ p.journal.1.valid part.cut (sym part.whole ∙ p.journal.3);
     }
 
 -- a stream that stopped as it was read on

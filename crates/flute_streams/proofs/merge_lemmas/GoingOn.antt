@@ -51,16 +51,14 @@ module _ {S : Type 0} (b : Behaviour S) (place : Option Address) where
   as_it_was k old now x e is =
       let h = slice_get_within _ k x is in
       let a = drop-cons _ k x h in
-      let c = drop-cons _ k x
-      (shorter k _ _ e h) in
-      let r = same_head _ _ _ _
-      (sym a ∙ e ∙ c) in (sym r.0 ∙ get_or_from_slice_get _ k x x is, rw add-one r.1)
+      let c = drop-cons _ k x (shorter k _ _ e h) in
+      let r = same_head _ _ _ _ (sym a ∙ e ∙ c) in
+      (sym r.0 ∙ get_or_from_slice_get _ k x x is, rw add-one r.1)
 
   old_more : (k : ℕ) (old now : List S) (x : S) → drop k now ≡ drop k old
       → slice_get now k ≡ Some x → take (k + 1) old ≡ take k old ++ x ∷ []
   old_more k old now x e is = cc (
-    take_more old k x
-        (shorter k _ _ e (slice_get_within _ k x is)),
+    take_more old k x (shorter k _ _ e (slice_get_within _ k x is)),
     (as_it_was k _ _ x e is).0,
   )
 
@@ -76,11 +74,10 @@ module _ {S : Type 0} (b : Behaviour S) (place : Option Address) where
   pub one_stays : {k : ℕ} {old now : List S} {x : S} → WentSoFar k old now → slice_get now k ≡ Some
       x → address_of (b.held x) ≢ place → WentSoFar (k + 1) old now
   one_stays {k = k} {old = old} {now = now} {x = x} w is n = record {
-    done =
-        rw (old_more k old now x w.rest is)
-        (subst (λ l. GoOnAt b place (take k old ++ x ∷ []) l)
-        (sym (take_more now k x (slice_get_within now k x is)
-        ∙ ap (λ y. take k now ++ y ∷ []) (get_or_from_slice_get now k x x is)))
+    done = rw (old_more k old now x w.rest is) (subst
+        (λ l. GoOnAt b place (take k old ++ x ∷ []) l) (sym (take_more now k x
+        (slice_get_within now k x is) ∙ ap (λ y. take k now ++ y ∷ [])
+        (get_or_from_slice_get now k x x is)))
         (go_on_more (take k old) (take k now) x x w.done (inr (n, refl))));
     rest = (as_it_was k old now x w.rest is).1;
   }
@@ -95,8 +92,7 @@ module _ {S : Type 0} (b : Behaviour S) (place : Option Address) where
       let j = k + n in
       let l : j < m = omega arith in
       let x = item_at now j (omega arith) in
-      let before = more_stay n refl (omega arith)
-      (λ i s p q g. apart i s p (omega arith) g) w in
+      let before = more_stay n refl (omega arith) (λ i s p q g. apart i s p (omega arith) g) w in
       let same : j + 1 ≡ m = omega arith in
       rw (← same) (one_stays before x.1 (apart j _ (omega arith) l x.1))
 
@@ -108,11 +104,9 @@ module _ {S : Type 0} (b : Behaviour S) (place : Option Address) where
       let x = a.before in
       let h = slice_get_within _ k x a.was in
       rw a.now (record {
-        done = rw
-            (old_more k _ _ x w.rest a.was) (rw (take_more_set _ k _ h)
-            (go_on_more _ _ x _ w.done (inl (p, a.goes_on))));
-        rest = drop-set-lt _ _ k _ (omega arith) ∙
-            (as_it_was k _ _ x w.rest a.was).1;
+        done = rw (old_more k _ _ x w.rest a.was)
+            (rw (take_more_set _ k _ h) (go_on_more _ _ x _ w.done (inl (p, a.goes_on))));
+        rest = drop-set-lt _ _ k _ (omega arith) ∙ (as_it_was k _ _ x w.rest a.was).1;
       })
 
   stop_at : (xs ys zs : List S) (x : S) {y : S} {f : LoadFault} → GoOnAt b place xs ys
@@ -150,8 +144,7 @@ module _ {S : Type 0} (b : Behaviour S) (place : Option Address) where
   all_went k old now w h =
       let l = ap length w.rest in
       let short : length old ≤ k = omega (arith, length-drop k now, length-drop k old) in
-      rw (← take_all k old short)
-      (rw (← take_all k now h) w.done)
+      rw (← take_all k old short) (rw (← take_all k now h) w.done)
 
 pub same_length : {S : Type 0} (b : Behaviour S) (k : ℕ) (old new : List S)
     → (a : Advances b k old new (Ok tt)) → length new ≡ length old

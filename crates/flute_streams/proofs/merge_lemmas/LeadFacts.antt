@@ -4,10 +4,10 @@ use Rattle.flute_streams.proofs.Common.{◌≡◌, ℕ, zero, suc, ◌+◌, ◌<
 use Rattle.flute_streams.proofs.Common.{true, eqb, List, [], ◌∷◌}
 use Rattle.flute_streams.proofs.Common.{◌++◌, length, Option, Some, None, Ok, Err, refl, sym}
 use Rattle.flute_streams.proofs.Common.{ap}
-use Rattle.flute_streams.proofs.Common.{◌∙◌, subst, inl, inr, arith, set, cases_Bool}
+use Rattle.flute_streams.proofs.Common.{◌∙◌, inl, inr, arith, set, cases_Bool}
 use Rattle.flute_streams.proofs.Common.{eqb-true}
 use Rattle.flute_streams.proofs.Common.{eqb-false, slice_get_within, same_Some, ◌≢◌, IfSome}
-use Rattle.flute_streams.proofs.Common.{slice_get, if◌then◌else◌, is_lt, AllByRecursion}
+use Rattle.flute_streams.proofs.Common.{slice_get, is_lt, AllByRecursion}
 use Rattle.flute_streams.proofs.Common.{Ordering}
 use Rattle.flute_streams.proofs.Common.{Less, Greater, address_cmp, address, StandAfter}
 use Rattle.flute_streams.proofs.Common.{address_total, Address, Fact, joined, fact_at-append}
@@ -28,8 +28,7 @@ lower-first next p None h = tt
 lower-first None p (Some q) h = absurd h
 lower-first (Some a) p (Some q) h = elim (cases_Bool (is_lt (address_cmp a p))) [
   | inl e ↦ search rules
-  | inr e ↦ rw e
-      (up_to-trans p a q refl refl (up_to_turned a p (address_cmp a p) refl e) h)
+  | inr e ↦ rw e (up_to-trans p a q refl refl (up_to_turned a p (address_cmp a p) refl e) h)
 ]
 
 pub lower-second : (next : Option Address) (p : Address)
@@ -82,8 +81,7 @@ module _ {S : Type 0} (b : Behaviour S) {number k : ℕ} {streams : List S}
         stream = x.0;
         is = x.1;
         below = search rules;
-        others = λ j s i n. h.none_before j s
-            (let p = slice_get_within _ j s i in omega arith) i n;
+        others = λ j s i n. h.none_before j s (let p = slice_get_within _ j s i in omega arith) i n;
       }
 
   pub firsts_passed : k ≡ number → FirstsFrom b number k streams next
@@ -169,8 +167,7 @@ module _ {S : Type 0} (b : Behaviour S) where
   lead_lowest g k s [] e held h = absurd cc
   lead_lowest g zero s (t ∷ streams) e held h =
       let p : option_list (b.held t) ≡ g ∷ [] = search rules in
-      rw p
-      (lowest_first g (heads b streams) (all_after g streams (behind_zero g t streams h)))
+      rw p (lowest_first g (heads b streams) (all_after g streams (behind_zero g t streams h)))
   lead_lowest g (suc k) s (t ∷ streams) e held h =
       lowest_behind g (option_list (b.held t)) (heads b streams)
       (over_list g (b.held t) (first_over h))
@@ -181,15 +178,13 @@ module _ {S : Type 0} (b : Behaviour S) where
 
   pub lead-lowest : (streams : List S) (number : ℕ) (next : Option Address) (o : Option Fact) →
       (l : Leads b streams number next) → o ≡ b.held l.stream → IsLowest (heads b streams) o
-  lead-lowest streams number next None l e =
-      absurd (rw (← e) at l.below)
+  lead-lowest streams number next None l e = absurd (rw (← e) at l.below)
   lead-lowest streams number next (Some g) l e =
       lead_lowest g number l.stream streams l.is (sym e) (others_over g (sym e))
     where
       others_over : (g : Fact) → b.held l.stream ≡ Some g → OthersOver g number streams
       others_over g e j s i n =
           over g next (b.held s) (rw e at l.below) (l.others j s i n)
-
 
   -- Only the leading stream is advanced.
 
@@ -210,8 +205,8 @@ module _ {S : Type 0} (b : Behaviour S) where
   goes {a} zero (s ∷ streams) {x} {y} e p g h =
       let q = same_Some s x e in (
         inl (ap (λ t. address_of (b.held t)) q ∙ p, rw q g),
-        all_stay a
-            _ (λ j t i. h _ t i (zero_apart j)),
+        all_stay a _
+            (λ j t i. h _ t i (zero_apart j)),
       )
   goes (suc k) (s ∷ streams) e p g h = (
     inr (h 0 s refl (apart_zero k), refl),

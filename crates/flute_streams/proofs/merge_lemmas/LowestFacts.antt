@@ -10,7 +10,7 @@ use Rattle.flute_streams.proofs.Common.{conflict_at, fact_at, fact_at-after}
 use Rattle.flute_streams.proofs.Common.{fact_at-append, fact_same, false, get_or}
 use Rattle.flute_streams.proofs.Common.{get_or_from_slice_get, heads, is_eq, is_lt, joined}
 use Rattle.flute_streams.proofs.Common.{joined-apart, joined-none, joined-same, length, option_list}
-use Rattle.flute_streams.proofs.Common.{refl, rules, same_fact, subst, sym, take}
+use Rattle.flute_streams.proofs.Common.{refl, rules, same_fact, sym, take}
 use Rattle.flute_streams.proofs.Common.{take_more, true, ℕ, ◌++◌, ◌+◌, ◌<◌, ◌∙◌}
 use Rattle.flute_streams.proofs.Common.{◌∷◌, ◌≡◌, ◌≢◌}
 use Rattle.flute_journal.proofs.Public.{all_append, all_map}
@@ -105,10 +105,9 @@ module _ (facts : List Fact) (f g : Fact) (h : Lowest facts g) where
   lowest_stays greater =
       let a = address g in
       record {
-        comes = fact_at-append _ _ a ∙ ap (joined a _)
-            (alone-elsewhere f a (ap is_eq greater)) ∙ joined-none a _ ∙ h.comes;
-        first = all_append _ _ _ h.first
-            (up_to_turned _ a _ greater refl, tt);
+        comes = fact_at-append _ _ a ∙ ap (joined a _) (alone-elsewhere f a (ap is_eq greater)) ∙
+            joined-none a _ ∙ h.comes;
+        first = all_append _ _ _ h.first (up_to_turned _ a _ greater refl, tt);
       }
 
   -- a fact at the lowest address is joined with its value
@@ -116,8 +115,7 @@ module _ (facts : List Fact) (f g : Fact) (h : Lowest facts g) where
       → fact_at (facts ++ f ∷ []) (address g) ≡ joined (address g) (Some g) (Some f)
   with_more = grind (arith, fact_at-append, joined, alone-at)
 
-  first_more : address f ≡ address g
-      → AllByRecursion (IsNotBefore (address g)) (facts ++ f ∷ [])
+  first_more : address f ≡ address g → AllByRecursion (IsNotBefore (address g)) (facts ++ f ∷ [])
   first_more = search (rules, all_append, up_to_itself)
 
   -- that fact has the same value, which remains
@@ -137,10 +135,9 @@ module _ (facts : List Fact) (f g : Fact) (h : Lowest facts g) where
       let e = address_same (address f) (address g) (ap is_eq equal) in
       let is = conflict-place _ ∙ e in
       record {
-        comes = ap (fact_at (facts ++ f ∷ [])) is ∙ with_more e
-            ∙ ap Some (joined-apart _ g f apart ∙ ap conflict_at (sym e));
-        first = rw is
-            (first_more e);
+        comes = ap (fact_at (facts ++ f ∷ [])) is ∙ with_more e ∙ ap Some
+            (joined-apart _ g f apart ∙ ap conflict_at (sym e));
+        first = rw is (first_more e);
       }
 
 -- the value of two facts at one address

@@ -75,9 +75,8 @@ spelled_some = search rules
 pub spelled-same : {one other : List ℕ} {o p : Option Fact} (g f : Fact) → IsSpelling one o
     → IsSpelling other p → one ≢ [] → other ≢ [] → o ≡ Some g → p ≡ Some f
     → bytes_eq one other ≡ same_fact g f
-spelled-same {one} {other} g f h k some any e d =
-    same_spelled g f _ _ (spelled_some _ g some (subst (IsSpelling one) e h))
-    (spelled_some _ f any (rw d at k))
+spelled-same {one} {other} g f h k some any e d = same_spelled g f _ _
+    (spelled_some _ g some (subst (IsSpelling one) e h)) (spelled_some _ f any (rw d at k))
 
 -- the first of new streams holds nothing
 pub none-new : {S : Type 0} (b : Behaviour S) (streams : List S) → AreNew b streams
@@ -95,10 +94,9 @@ module _ {S : Type 0} (b : Behaviour S) (streams : List S) where
       h x.0 x.1 ∙ ap (λ s. read (held_in b s)) (sym x.1)
 
   -- the bytes that one stream has of what it holds
-  pub spelled-at : (k : ℕ) {bytes : List ℕ}
-      → AreSpelled b streams → k < length streams
-      → ((s : S) → slice_get streams k ≡ Some s → bytes ≡ b.spelled s)
-      → IsSpelling bytes (held_at b streams k)
+  pub spelled-at : (k : ℕ) {bytes : List ℕ} → AreSpelled b streams → k < length streams →
+      ((s : S) → slice_get streams k ≡ Some s → bytes ≡ b.spelled s) → IsSpelling bytes
+      (held_at b streams k)
   spelled-at k {bytes = bytes} all within spelled =
       let x = item_at streams k within in
       let own = all_at (λ s. IsSpelling (b.spelled s) (b.held s)) streams k all x.1 in
@@ -110,8 +108,7 @@ module _ {S : Type 0} (b : Behaviour S) (streams : List S) where
     pub is : value_at b streams l ≡ Some fact
     pub at : place_at b streams l ≡ Some (address fact)
 
-  pub has_value : (l : LowestValue)
-      → Stands b streams l → HasValue l
+  pub has_value : (l : LowestValue) → Stands b streams l → HasValue l
   has_value l stands =
       let held = held_at b streams l.number in
       let h = place-some held stands.0 stands.1 in
@@ -120,8 +117,7 @@ module _ {S : Type 0} (b : Behaviour S) (streams : List S) where
         | inr e ↦ search rules
       ]
 
-  pub stands-within : (l : LowestValue)
-      → Stands b streams l → l.number < length streams
+  pub stands-within : (l : LowestValue) → Stands b streams l → l.number < length streams
   stands-within l stands = search (rules, held-within, place-some, held_at)
 
   -- the order of the place of a stream, which holds a fact, and that of a value
@@ -133,12 +129,11 @@ module _ {S : Type 0} (b : Behaviour S) (streams : List S) where
     pub is : address_cmp (address fact) (address value.fact) ≡ order
 
   -- as the addresses that were read of them have it
-  pub compared : (l : LowestValue) {k : ℕ}
-      {p q : Option Address} {order : Ordering} → Stands b streams l → Stands b streams (first_at k) →
+  pub compared : (l : LowestValue) {k : ℕ} {p q : Option Address} {order : Ordering} → Stands b
+      streams l → Stands b streams (first_at k) →
       ((s : S) → slice_get streams k ≡ Some s → p ≡ address_of (b.held s)) →
       ((s : S) → slice_get streams l.number ≡ Some s → q ≡ address_of (b.held s)) →
-      ((a c : Address) → p ≡ Some a → q ≡ Some c → order ≡ address_cmp a c) → Compared k l
-      order
+      ((a c : Address) → p ≡ Some a → q ≡ Some c → order ≡ address_cmp a c) → Compared k l order
   compared l {k} stands here first second is =
       let f = place-some _ _ here.1 in
       let v = has_value l stands in
@@ -164,13 +159,11 @@ module _ {S : Type 0} (b : Behaviour S) (streams : List S) where
     pub valid : IsFact value.fact
     pub puts : Puts written failures (entry value.fact) old new
 
-  pub written_at : {W : Type 0} {l : LowestValue}
-      {written : W → Option (List ℕ)} {failures : W → ℕ} {old new : JournalWriter W} → Stands b
-      streams l → IsLowest (heads b streams) (value_at b streams l) → IfSome (value_at b streams l)
-      IsFact → IfSome (value_at b streams l) (λ f. Puts written failures (entry f) old new) →
-      WrittenAt l written failures old new
-  written_at stands h
-      valid puts =
+  pub written_at : {W : Type 0} {l : LowestValue} {written : W → Option (List ℕ)} {failures : W → ℕ}
+      {old new : JournalWriter W} → Stands b streams l → IsLowest (heads b streams)
+      (value_at b streams l) → IfSome (value_at b streams l) IsFact → IfSome (value_at b streams l)
+      (λ f. Puts written failures (entry f) old new) → WrittenAt l written failures old new
+  written_at stands h valid puts =
       let v = at_lowest stands h in
       record {
         value = v.value;
@@ -180,10 +173,9 @@ module _ {S : Type 0} (b : Behaviour S) (streams : List S) where
       }
 
   -- its address is that of the stream
-  pub placed : {l : LowestValue}
-      {o : Option Address} {a : Address} (v : HasValue l) → Stands b streams l
-      → ((s : S) → slice_get streams l.number ≡ Some s → o ≡ address_of (b.held s))
-      → o ≡ Some a → address v.fact ≡ a
+  pub placed : {l : LowestValue} {o : Option Address} {a : Address} (v : HasValue l) → Stands b
+      streams l → ((s : S) → slice_get streams l.number ≡ Some s → o ≡ address_of (b.held s)) → o ≡
+      Some a → address v.fact ≡ a
   placed v stands h e = search rules
 
   pub place-joined : (l : LowestValue) (k : ℕ) (r : LowestValue) → Joins b streams l k r
@@ -237,14 +229,10 @@ module _ {S : Type 0} (b : Behaviour S) (streams : List S) where
       pub lowest-joined : address_cmp (address f) (address g) ≡ Equal → (r : LowestValue)
           → Joins b streams l k r
           → IsLowest (facts ++ option_list (held_at b streams k)) (value_at b streams r)
-      lowest-joined equal r j =
-          rw here
-          (elim (cases_Bool (same_fact g f)) [
-            | inl e ↦ rw (j.same g f is here e)
-                (lowest_same facts f g low equal e)
-            | inr e ↦ rw (j.apart g f is here e)
-                (lowest_apart facts f g low equal e)
-          ])
+      lowest-joined equal r j = rw here (elim (cases_Bool (same_fact g f)) [
+        | inl e ↦ rw (j.same g f is here e) (lowest_same facts f g low equal e)
+        | inr e ↦ rw (j.apart g f is here e) (lowest_apart facts f g low equal e)
+      ])
 
   -- What comes to be the value at that address, with one stream more that is there.
   module _ (facts : List Fact) (k : ℕ) (a : Address)
@@ -257,8 +245,7 @@ module _ {S : Type 0} (b : Behaviour S) (streams : List S) where
 
     pub comes-alone : ComesTo a facts None
         → ComesTo a (facts ++ option_list (held_at b streams k)) (held_at b streams k)
-    comes-alone h = rw held.1
-        (comes-first a _ _ held.2 not_before h)
+    comes-alone h = rw held.1 (comes-first a _ _ held.2 not_before h)
 
     pub comes-joined : (l r : LowestValue) → StandsOn b a streams l → Joins b streams l k r
         → ComesTo a facts (value_at b streams l)
@@ -266,8 +253,7 @@ module _ {S : Type 0} (b : Behaviour S) (streams : List S) where
     comes-joined l r stands j h =
         let v = has_value l (a, stands) in
         let low = rw v.is at h in
-        rw held.1 (elim
-        (cases_Bool (same_fact v.fact held.0)) [
+        rw held.1 (elim (cases_Bool (same_fact v.fact held.0)) [
           | inl e ↦ rw (j.same v.fact held.0 v.is held.1 e)
               (comes-same a facts v.fact held.0 held.2 not_before e low)
           | inr e ↦ rw (j.apart v.fact held.0 v.is held.1 e)

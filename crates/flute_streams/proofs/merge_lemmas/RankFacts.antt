@@ -46,8 +46,7 @@ pub rank-symbol : (sbn esi : ℕ) → esi < 65536
 rank-symbol sbn esi h =
     let n = sbn * 65536 + esi in
     let e : 1 + sbn * 65536 + esi ≡ suc n = omega arith in
-    ap part_at e ∙ part_suc n
-    ∙ same_symbol _ _ _ _ (omega (arith)) (omega (arith))
+    ap part_at e ∙ part_suc n ∙ same_symbol _ _ _ _ (omega arith) (omega arith)
 
 -- parts rise with their ranks
 
@@ -137,13 +136,8 @@ module _ (a : Address) (facts : List Fact) where
   -- a fact that is elsewhere: the value is unchanged
   pub comes-elsewhere : (v : Option Fact) (f : Fact) → is_eq (address_cmp (address f) a) ≡ false →
       IsNotBefore a f → ComesTo a facts v → ComesTo a (facts ++ f ∷ []) v
-  comes-elsewhere v f e n h = search (
-    rules,
-    fact_at-append,
-    alone-elsewhere,
-    joined-none,
-    first_more,
-  )
+  comes-elsewhere v f e n h = search
+      (rules, fact_at-append, alone-elsewhere, joined-none, first_more)
 
   -- the first fact at the address is the value
   pub comes-first : (f : Fact) → address f ≡ a → IsNotBefore a f → ComesTo a facts None
@@ -174,10 +168,5 @@ module _ (a : Address) (facts : List Fact) where
       → a ≡ place_at_rank key rank → rank < higher → AllFrom key higher (address_of o)
       → ComesTo a facts v → ComesTo a (facts ++ option_list o) v
   comes-behind {v = v} key rank higher None e l from h = grind (arith, common_steps)
-  comes-behind {v = v} key rank higher (Some f) e l from h = search (
-    rules,
-    behind,
-    comes-elsewhere,
-    apart,
-    up_to_less,
-  )
+  comes-behind {v = v} key rank higher (Some f) e l from h = search
+      (rules, behind, comes-elsewhere, apart, up_to_less)

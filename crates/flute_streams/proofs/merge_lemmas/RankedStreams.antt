@@ -4,7 +4,7 @@ use Rattle.flute_streams.proofs.Common.{◌≡◌, ◌≢◌, ℕ, zero, suc, �
 use Rattle.flute_streams.proofs.Common.{◌<◌, ◌≤◌, ◌/◌, Bool, true}
 use Rattle.flute_streams.proofs.Common.{List, ◌++◌, length, take, Option, Some, Ok}
 use Rattle.flute_streams.proofs.Common.{inl, inr, ◌⊎◌, sym, ap, ◌∙◌}
-use Rattle.flute_streams.proofs.Common.{subst, arith, cases_Bool, eqb, eqb-false, eqb-true}
+use Rattle.flute_streams.proofs.Common.{arith, cases_Bool, eqb, eqb-false, eqb-true}
 use Rattle.flute_streams.proofs.Common.{slice_get, slice_get_within, Address, Fact}
 use Rattle.flute_streams.proofs.Common.{option_list, address_of, Behaviour, Advances, heads}
 use Rattle.flute_streams.proofs.merge_lemmas.GoingOn.{NoneAt, WentSoFar, all_went, item_at}
@@ -101,9 +101,8 @@ module _ {S : Type 0} (b : Behaviour S) (key : Key) where
             | inr n ↦ n
           ] in rw same (m.ranked (both all).1 s (rw same at i))
       | inr e ↦ let apart = eqb-false j k e in
-          let was = sym
-          (set_elsewhere b old k j m.advanced.after apart) ∙ ap (λ l. slice_get l j)
-          (sym m.advanced.now) ∙ i in rw (m.stay j apart) (h.from j s
+          let was = sym (set_elsewhere b old k j m.advanced.after apart) ∙ ap
+          (λ l. slice_get l j) (sym m.advanced.now) ∙ i in rw (m.stay j apart) (h.from j s
           (elim w [ inl l ↦ inl (omega (arith, l)) | inr n ↦ inr (both n).0 ]) was)
     ];
   }
@@ -154,5 +153,4 @@ module _ {S : Type 0} (b : Behaviour S) (streams : List S) (a : Address) where
       (heads b (take m streams)) v
   comes-up-to k m {v} p within at above ranked h =
       let same : k + (m - k) ≡ m = omega arith in
-      rw (← same) (comes_passed k _
-      (omega arith) at (λ i l q. above i l (omega arith)) ranked h)
+      rw (← same) (comes_passed k _ (omega arith) at (λ i l q. above i l (omega arith)) ranked h)

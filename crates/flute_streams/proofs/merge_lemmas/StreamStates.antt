@@ -15,7 +15,7 @@ use Rattle.flute_streams.proofs.Common.{cut_header, end, entry, fact_at, fact_at
 use Rattle.flute_streams.proofs.Common.{fact_at-nil, false, without_end, header, heads, inl, inr}
 use Rattle.flute_streams.proofs.Common.{is_after, last_of, length, length-append, most_of}
 use Rattle.flute_streams.proofs.Common.{none-some, refl, rising_unique, rules}
-use Rattle.flute_streams.proofs.Common.{spelling, subst, sym, true, written_up_to, ℕ, ◌++◌}
+use Rattle.flute_streams.proofs.Common.{spelling, sym, true, written_up_to, ℕ, ◌++◌}
 use Rattle.flute_streams.proofs.Common.{◌+◌}
 use Rattle.flute_streams.proofs.Common.{◌<◌, ◌^◌, ◌∙◌, ◌∷◌, ◌≡◌}
 use Rattle.flute_streams.proofs.Common.{◌≤◌}
@@ -30,7 +30,7 @@ use Rattle.flute_streams.proofs.merge_lemmas.StreamTurns.{Run, starts, nows, giv
 use Rattle.flute_streams.proofs.merge_lemmas.StreamTurns.{Went, Stays, Turned, turn, new_runs}
 use Rattle.flute_streams.proofs.merge_lemmas.StreamTurns.{new_starts, new_nows, new_givens}
 use Rattle.flute_streams.proofs.merge_lemmas.StreamTurns.{new_stays, went_stays, given_same}
-use Rattle.flute_streams.proofs.merge_lemmas.StreamTurns.{given_length, fewer_all, taken_at}
+use Rattle.flute_streams.proofs.merge_lemmas.StreamTurns.{given_length, fewer_all}
 use Rattle.flute_streams.proofs.merge_lemmas.StreamTurns.{taken_same, taken_some, lowest-sized}
 use Rattle.flute_streams.proofs.merge_lemmas.StreamStops.{reads_now, none_fails, ended_whole}
 use Rattle.flute_streams.proofs.merge_lemmas.StreamStops.{StoppedAll, stopped_all, short_header}
@@ -160,10 +160,11 @@ module _ {S : Type 0} (b : Behaviour S) where
       let s = stays None t.next t.went in
       of_runs (λ l m. Stopping patient l m w w' Write × NoneFails b l m) t.next
       (t.starts_are ∙ new_starts b old) t.nows_are (
-        at_write (givens t.next) (short_header b a.part a.rest a.appended (sym a.whole))
-            (reads_now b None t.next s) (rw e none_collects) a.appended
-            (cut_header refl (a.rest, a.cut, sym a.whole)),
-        none_fails b None t.next s,
+        at_write (givens t.next)
+            (short_header b a.part a.rest a.appended (sym a.whole)) (reads_now b None t.next s)
+            (rw e none_collects) a.appended (cut_header refl (a.rest, a.cut, sym a.whole)),
+        none_fails b
+            None t.next s,
       )
 
   heads-above : (place : Option Address) (runs : List (Run S)) → AllByRecursion (Went b place) runs
@@ -230,8 +231,7 @@ module _ {S : Type 0} (b : Behaviour S) where
 
       -- the entries that were written, and g after them, rise
       rising_next : IsRising (state.joined ++ g ∷ [])
-      rising_next = rises-rising _
-          (rises_more _ _ g (rising-rises _ state.collects.rising) above)
+      rising_next = rises-rising _ (rises_more _ _ g (rising-rises _ state.collects.rising) above)
 
       from_next : HoldFrom b last (address g) state.runs
       from_next = search rules
@@ -245,17 +245,14 @@ module _ {S : Type 0} (b : Behaviour S) where
         collects_next = record {
           valid = all_more IsFact state.joined g state.collects.valid valid;
           rising = rising_next;
-          same = Same-trans _ _ _ (given_same b (address g) state.runs)
-              (Same-append _ _ _ _ state.collects.same
-              (taken_same (heads b (nows state.runs)) g low.comes));
+          same = Same-trans _ _ _ (given_same b (address g) state.runs) (Same-append _ _ _ _
+              state.collects.same (taken_same (heads b (nows state.runs)) g low.comes));
         }
 
         next_bytes : (next : Bool) (w'' : Option (List ℕ)) → PutsBytes failed next w' w'' (entry g)
             → Written next w w'' (without_end (state.joined ++ g ∷ []))
-        next_bytes next w'' a =
-            rw (← without_end-snoc _ g)
-            (written-more _ _ w w' _ _ _
-            (state.written, a))
+        next_bytes next w'' a = rw (← without_end-snoc _ g)
+            (written-more _ _ w w' _ _ _ (state.written, a))
 
         -- the state after this turn
         pub state_turn : (next : Bool) (Next : List Fact → Type 0) (new : List S)
@@ -264,8 +261,7 @@ module _ {S : Type 0} (b : Behaviour S) where
             → PutsBytes failed next w' w'' (entry g) → GoOnAt b (Some (address g)) now new
             → State next Next old new w w'' (count + 1)
         state_turn next Next new w'' k a h =
-            let t = turn b (Some (address g)) state.runs new next_stays
-            (rw state.nows_are h) in
+            let t = turn b (Some (address g)) state.runs new next_stays (rw state.nows_are h) in
             let given = ap (λ l. length (all_of l)) t.givens_are in
             record {
               runs = t.next;
@@ -305,13 +301,12 @@ module _ {S : Type 0} (b : Behaviour S) where
             (patient ≡ false → next ≡ false) → StopsIn b (Some (address g)) now new fault → Stopping
             patient old new w w'' (Input fault) × OneFails b fault.number fault.fault old new
         stop_input patient next new w'' fault a eager h =
-            let s : StoppedAll b (Some (address g)) fault.number fault.fault state.runs new =
-            grind (arith, stopped_all, next_stays) in
+            let s : StoppedAll b (Some (address g)) fault.number fault.fault state.runs new = grind
+            (arith, stopped_all, next_stays) in
             let bytes = next_bytes next w'' a in
             let part = written-part next w w'' _ bytes in
-            rw (← state.starts_are) (at_input s
-            (short_entry b state.joined g part.bytes part.more from_next collects_next
-            part.appended part.whole) collects_next
+            rw (← state.starts_are) (at_input s (short_entry b state.joined g part.bytes part.more
+            from_next collects_next part.appended part.whole) collects_next
             (λ p. rw (← written-snoc state.joined g) (written-whole next w w'' _ (eager p) bytes)))
 
       pub turn-falls : (new : List S) → GoOnAt b (Some (address g)) now new
@@ -341,22 +336,14 @@ module _ {S : Type 0} (b : Behaviour S) where
 
       whole : (next : Bool) (w'' : Option (List ℕ)) → PutsBytes failed next w' w'' (end count)
           → Written next w w'' (spelling state.joined)
-      whole next w'' a = rw
-          (← state.count_is) (written-more _ _ w w' _ _ _
-          (state.written, a))
+      whole next w'' a = rw (← state.count_is) (written-more _ _ w w' _ _ _ (state.written, a))
 
       -- the journal of other facts with the same value at each address is the one that was written
       others_too : (next : Bool) (w'' : Option (List ℕ)) → PutsBytes failed next w' w'' (end count)
           → (others : List Fact) → Same (all_of (givens state.runs)) others → (bytes : List ℕ) →
           Journal bytes others → Written next w w'' bytes
-      others_too next w'' a others m bytes j = search (
-        rules,
-        all_of,
-        Same-trans,
-        Same-sym,
-        rising_unique,
-        whole,
-      )
+      others_too next w'' a others m bytes j = search
+          (rules, all_of, Same-trans, Same-sym, rising_unique, whole)
 
   pub finished : {s o y : ℕ} (tally : Tally s o y) (within next : Bool) {failed : Bool}
       {old now : List S} {w w' : Option (List ℕ)} {count : ℕ}
@@ -364,8 +351,8 @@ module _ {S : Type 0} (b : Behaviour S) where
       → (w'' : Option (List ℕ)) → most_of b old < 2 ^ 64 → heads b now ≡ []
       → PutsBytes failed next w' w'' (end count)
       → EndsMerged b old now s o y (record { entries = count; within = within; cut = next }) w w''
-  finished {s} {o} {y} tally within next {failed} {old} {now} {w} {w'} {count} state w''
-      few none a = moved state (λ l m. EndsMerged b l m s o y
+  finished {s} {o} {y} tally within next {failed} {old} {now} {w} {w'} {count} state w'' few none a
+      = moved state (λ l m. EndsMerged b l m s o y
       (record { entries = count; within = within; cut = next }) w w'') (record {
         merged = record {
           told = givens state.runs;

@@ -110,15 +110,12 @@ module _ {S : Type 0} (b : Behaviour S) where
 
   apart : (f : Fact) (a : Address) → same_address (address f) a ≡ false
       → Some (address f) ≡ Some a → ⊥
-  apart f a e q =
-      absurd (let t =
-      address_itself (address f) in cc)
+  apart f a e q = absurd (let t = address_itself (address f) in cc)
 
   above_held : (a : Address) (F K : List Fact) (held : Option Fact) → Continues K
       (F ++ option_list held) held → (address_of held ≢ Some a → IsAbove (Some a) held) → Above
       (Some a) K (F ++ given_at (Some a) held)
-  above_held a F K None c n =
-      record { rest = c.rest; is = c.is; rises = rw (c.ended refl) tt }
+  above_held a F K None c n = record { rest = c.rest; is = c.is; rises = rw (c.ended refl) tt }
   above_held a F K (Some f) c n = elim (cases_Bool (same_address (address f) a)) [
     | inl e ↦ rw e (record {
       rest = c.rest;
@@ -173,9 +170,8 @@ module _ {S : Type 0} (b : Behaviour S) where
   known_whole place [] [] w e k = refl
   known_whole place (r ∷ runs) (K ∷ known) w e k =
       let n = none_held _ _ e in
-      ap (λ l. l ++ all_of known)
-      (only _ K (b.held r.now) n.0 (w.0.gave.known K k.0))
-      ∙ ap (λ l. r.given ++ l) (known_whole place runs known w.1 n.1 k.1)
+      ap (λ l. l ++ all_of known) (only _ K (b.held r.now) n.0 (w.0.gave.known K k.0)) ∙ ap
+      (λ l. r.given ++ l) (known_whole place runs known w.1 n.1 k.1)
   known_whole place runs known w e k = absurd k
 
   -- each stream contains just what it gave, once none holds a fact
@@ -201,12 +197,8 @@ module _ {S : Type 0} (b : Behaviour S) where
 
   goes_on : (M rest : List Fact) (bs more : List ℕ) (n : ℕ) → bs ++ more ≡ without_end M
       → bs ++ (more ++ (flat_map entry rest ++ end n)) ≡ without_end (M ++ rest) ++ end n
-  goes_on M rest bs more n e = cc (
-    append_assoc bs _ _,
-    e,
-    append_assoc _ _ _,
-    without_end-append M _,
-  )
+  goes_on M rest bs more n e = cc
+      (append_assoc bs _ _, e, append_assoc _ _ _, without_end-append M _)
 
   -- a part of the header and of entries that begin those of all facts
   short : {inputs : List S} {w w' : Option (List ℕ)} (bs more : List ℕ) (M : List Fact) →
@@ -220,8 +212,7 @@ module _ {S : Type 0} (b : Behaviour S) where
     prefix = λ known k whole j. let p = h _ k j.0 j.1 in (
       more ++
           (flat_map entry p.0 ++ end (length j.0)),
-      rest_some _ _
-          _,
+      rest_some _ _ _,
       goes_on M _ bs _ _ e ∙ ap
           (λ z. without_end z ++ end (length j.0)) (sym p.1) ∙ sym j.3,
     );

@@ -38,8 +38,7 @@ fact_at-sized (f ∷ fs) a v = elim (cases_Bool _) [
   | inl e ↦ let p = address_same (address f) a e in rw
       (fact_at-cons f fs a ∙ ap (λ x. joined a x (fact_at fs a)) (alone-at f a p))
       (sized_joined a f _ v.0)
-  | inr e ↦ rw (fact_at-elsewhere f fs a e)
-      (fact_at-sized fs a v.1)
+  | inr e ↦ rw (fact_at-elsewhere f fs a e) (fact_at-sized fs a v.1)
 ]
 
 pub lowest-sized : (facts : List Fact) (g : Fact) → AllByRecursion IsSized facts
@@ -61,9 +60,8 @@ taken_at a (f ∷ fs) = taken_by (same_address (address f) a) f ++ taken_at a fs
 taken_here : (a : Address) (fs : List Fact) → fact_at (taken_at a fs) a ≡ fact_at fs a
 taken_here a [] = refl
 taken_here a (f ∷ fs) = elim (cases_Bool _) [
-  | inl e ↦ ap (λ b. fact_at (taken_by b f ++ taken_at a fs) a) e ∙ fact_at-cons f
-      _ a ∙ ap (joined a _) (taken_here a fs) ∙ sym
-      (fact_at-cons f fs a)
+  | inl e ↦ ap (λ b. fact_at (taken_by b f ++ taken_at a fs) a) e ∙ fact_at-cons f _ a ∙ ap
+      (joined a _) (taken_here a fs) ∙ sym (fact_at-cons f fs a)
   | inr e ↦ ap (λ b. fact_at (taken_by b f ++ taken_at a fs) a) e ∙ taken_here a fs ∙ sym
       (fact_at-elsewhere f fs a e)
 ]
@@ -72,10 +70,8 @@ taken_elsewhere : (a b : Address) (fs : List Fact) → same_address a b ≡ fals
     → fact_at (taken_at a fs) b ≡ None
 taken_elsewhere a b [] n = fact_at-nil b
 taken_elsewhere a b (f ∷ fs) n = elim (cases_Bool _) [
-  | inl e ↦ ap (λ t. fact_at (taken_by t f ++ taken_at a fs) b) e ∙ fact_at-elsewhere f
-      _ b
-      (rw (address_same (address f) a e) n) ∙
-      taken_elsewhere a b fs n
+  | inl e ↦ ap (λ t. fact_at (taken_by t f ++ taken_at a fs) b) e ∙ fact_at-elsewhere f _ b
+      (rw (address_same (address f) a e) n) ∙ taken_elsewhere a b fs n
   | inr e ↦ ap (λ t. fact_at (taken_by t f ++ taken_at a fs) b) e ∙ taken_elsewhere a b fs n
 ]
 
@@ -84,10 +80,9 @@ pub taken_same : (fs : List Fact) (g : Fact) → fact_at fs (address g) ≡ Some
     → Same (taken_at (address g) fs) (g ∷ [])
 taken_same fs g h = record {
   each = λ b. elim (cases_Bool _) [
-    | inl e ↦
-        let p = address_same (address g) b e in
-        let P : Address → Type 0 = λ x. fact_at (taken_at (address g) fs) x ≡ fact_at (g ∷ []) x in
-        rw (← p) (taken_here _ fs ∙ h ∙ sym (alone-at g _ refl))
+    | inl e ↦ let p = address_same (address g) b e in
+        let P : Address → Type 0 = λ x. fact_at (taken_at (address g) fs) x ≡ fact_at
+        (g ∷ []) x in rw (← p) (taken_here _ fs ∙ h ∙ sym (alone-at g _ refl))
     | inr e ↦ taken_elsewhere _ b fs e ∙ sym (alone-elsewhere g b e)
   ];
 }
@@ -283,13 +278,8 @@ module _ {S : Type 0} (b : Behaviour S) where
   given_same a (r ∷ runs) =
       let here = taken_from a (b.held r.now) in
       let rest = taken_at a (heads b (nows runs)) in
-      rw
-      (taken_split a _ _)
-      (Same-trans _
-      _
-      _
-      (Same-append _ _ _
-      _ (Same-itself _) (given_same a runs))
+      rw (taken_split a _ _) (Same-trans _ _ _
+      (Same-append _ _ _ _ (Same-itself _) (given_same a runs))
       (Same-crossed r.given here (all_of (givens runs)) rest))
 
   pub given_length : (a : Address) (runs : List (Run S)) → length (all_of (givens_at (Some a) runs))
@@ -299,11 +289,8 @@ module _ {S : Type 0} (b : Behaviour S) where
 
   fewer_one : (a : Address) (t u : S) → GoesOnAt b (Some a) t u
       → b.most u + length (taken_from a (b.held t)) ≤ b.most t
-  fewer_one a t u (inl h) = rw
-      (given_here _ _ h.0) h.1.fewer
-  fewer_one a t u (inr h) = rw
-      (given_elsewhere _ _ h.0)
-      (let e = ap b.most h.1 in omega arith)
+  fewer_one a t u (inl h) = rw (given_here _ _ h.0) h.1.fewer
+  fewer_one a t u (inr h) = rw (given_elsewhere _ _ h.0) (let e = ap b.most h.1 in omega arith)
 
   -- how many facts they may still hold
   pub fewer_all : (a : Address) (now new : List S) → GoOnAt b (Some a) now new

@@ -1,14 +1,14 @@
 -- What a merge of two streams of journals gives, stated of the two journals (specs/Merges).
 use Rattle.flute_streams.proofs.Common.{AppendsPartOf, Behaviour, Collects, Each}
 use Rattle.flute_streams.proofs.Common.{EachSince, Either, Err, Fact, FailAs, First, FirstFails}
-use Rattle.flute_streams.proofs.Common.{Input, MergedJournal, Journal, KeepsUp, LentStream, List}
+use Rattle.flute_streams.proofs.Common.{MergedJournal, Journal, KeepsUp, LentStream, List}
 use Rattle.flute_streams.proofs.Common.{LoadFault, MergeGives, Merged, MergedAll, NamesFault}
 use Rattle.flute_streams.proofs.Common.{NamesInput, OneFails, Option, Read}
 use Rattle.flute_streams.proofs.Common.{ReadFault, ReadsAhead, Same, Same-append, Same-sym}
 use Rattle.flute_streams.proofs.Common.{Same-trans, Second, SecondFails, Some, StopsShort}
 use Rattle.flute_streams.proofs.Common.{StreamsFault, [], all_of, ap}
 use Rattle.flute_streams.proofs.Common.{append-nil, arith, either_behaviour, false, lent}
-use Rattle.flute_streams.proofs.Common.{lent_behaviour, limit_of, rules, slice_get, source_of}
+use Rattle.flute_streams.proofs.Common.{lent_behaviour, limit_of, rules, source_of}
 use Rattle.flute_streams.proofs.Common.{subst, suc, unread_of, written_up_to, zero}
 use Rattle.flute_streams.proofs.Common.{ℕ, ◌++◌, ◌∙◌, ◌∷◌, ◌≡◌}
 use Rattle.flute_streams.specs.declared.merge.two_streams.MergeFault.{MergeFault}
@@ -66,8 +66,7 @@ module _ {A B : Type 0} (ua : A → Option (List ℕ)) (ba : A → List ℕ) (fa
           second_entries = t.second;
           first_is = search rules;
           second_is = search rules;
-          writes = rw (← t.all)
-              (rw (← done) m.puts);
+          writes = rw (← t.all) (rw (← done) m.puts);
         }
 
     since_two : (P : Either (LentStream A) (LentStream B) → Either (LentStream A) (LentStream B) →
@@ -104,8 +103,7 @@ module _ {A B : Type 0} (ua : A → Option (List ℕ)) (ba : A → List ℕ) (fa
               },
               tt,
             ),
-          ) _
-          (journal_of _ _ _ F G j.collects.same k.collects.same n);
+          ) _ (journal_of _ _ _ F G j.collects.same k.collects.same n);
     }
 
     -- what was read of both, and what was appended

@@ -22,15 +22,13 @@ before_none a (f ∷ F) s = fact_at-elsewhere f F a (ap is_eq s.0) ∙ before_no
 
 pub before_value : (a : Address) (F R : List Fact) → StandBefore a F
     → fact_at (F ++ R) a ≡ fact_at R a
-before_value a F R s =
-    fact_at-append F R a ∙ ap (λ x. joined a x (fact_at R a)) (before_none a F s)
+before_value a F R s = fact_at-append F R a ∙ ap (λ x. joined a x (fact_at R a)) (before_none a F s)
 
 -- they stand before any later address too
 pub before_later : (a b : Address) (F : List Fact) → address_cmp a b ≡ Less → StandBefore a F
     → StandBefore b F
 before_later a b [] l s = tt
-before_later a b (f ∷ F) l s =
-    (address_total.trans _ a b s.0 l, before_later a b F l s.1)
+before_later a b (f ∷ F) l s = (address_total.trans _ a b s.0 l, before_later a b F l s.1)
 
 pub before_more : (a : Address) (f : Fact) (F : List Fact) → address_cmp (address f) a ≡ Less
     → StandBefore a F → StandBefore a (F ++ f ∷ [])
@@ -52,13 +50,11 @@ last_after : (a : Address) (F : List Fact) (f : Fact) → StandAfter a (F ++ f �
 last_after a [] f s = s.0
 last_after a (g ∷ F) f s = last_after a F f s.1
 
-pub rising_before : (F : List Fact) (f : Fact) → IsRising (F ++ f ∷ [])
-    → StandBefore (address f) F
+pub rising_before : (F : List Fact) (f : Fact) → IsRising (F ++ f ∷ []) → StandBefore (address f) F
 rising_before [] f r = tt
 rising_before (g ∷ F) f r = (last_after _ F f r.0, rising_before F f r.1)
 
 -- two places that compare equal are one
 pub same_place : {a p : Address} (held other : Option Fact) → Some a ≡ address_of held
     → Some p ≡ address_of other → address_cmp a p ≡ Equal → address_of held ≡ address_of other
-same_place {a} {p} held other e h o =
-    sym e ∙ ap Some (address_same a p (ap is_eq o)) ∙ h
+same_place {a} {p} held other e h o = sym e ∙ ap Some (address_same a p (ap is_eq o)) ∙ h

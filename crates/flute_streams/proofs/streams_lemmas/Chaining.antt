@@ -83,7 +83,6 @@ module _ {A B : Type 0} (a : Behaviour A) (b : Behaviour B) (x : A) (ys : List B
 
   pub other_advances : (zs : List B) (r : Result (Unit {0}) LoadFault) → Advances b (n - 1) ys zs r
       → Advances (either_behaviour a b) n (chained x (taken ys)) (chained x (taken zs)) r
-  other_advances zs r v = second_at a b _ r (stands _ v.was) (ap
-      (λ l. chained x (taken l)) v.now ∙ ap (chained x) (taken_set ys _ _ below) ∙ ap
-      (λ l. First x ∷ l) (seconds_set A B _ _ _) ∙ sym
+  other_advances zs r v = second_at a b _ r (stands _ v.was) (ap (λ l. chained x (taken l)) v.now ∙
+      ap (chained x) (taken_set ys _ _ below) ∙ ap (λ l. First x ∷ l) (seconds_set A B _ _ _) ∙ sym
       (ap (λ m. slice_set (chained x (taken ys)) m (Second v.after)) later)) v.goes_on v.stops

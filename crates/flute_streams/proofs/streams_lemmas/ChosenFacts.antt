@@ -83,8 +83,7 @@ module _ {C : Type 0} (takes : C → Fact → Bool) (s : C) where
           passes = record {
             passed = passed ++ option_list (b.held _);
             others = sym (and_other _ [] _ (sym h.passes.others) o);
-            gave = λ start all p. rw
-                (← append_assoc _ _ (option_list (b.held now)))
+            gave = λ start all p. rw (← append_assoc _ _ (option_list (b.held now)))
                 (g.gave start (given all ++ passed) (h.passes.gave start all p).passes);
             fewer = omega (arith, h.passes.fewer, g.fewer);
           };
@@ -163,8 +162,7 @@ module _ {C : Type 0} (takes : C → Fact → Bool) (s : C) where
             reads = search rules;
             reads_held = search rules;
             fails = q.1.fails;
-            rising = rw e
-                (rising_filter (takes s) (q.0 ++ option_list held) q.1.rising);
+            rising = rw e (rising_filter (takes s) (q.0 ++ option_list held) q.1.rising);
             sized = q.1.sized;
             spelled = q.1.spelled;
             ended = search rules;

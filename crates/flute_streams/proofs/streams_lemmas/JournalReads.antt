@@ -10,7 +10,7 @@ use Rattle.flute_streams.proofs.Common.{Result}
 use Rattle.flute_streams.proofs.Common.{SameLoans, Sofar, Some, ReaderState, Before, StopsAt, []}
 use Rattle.flute_streams.proofs.Common.{ap, append-nil, arith, is_open}
 use Rattle.flute_streams.proofs.Common.{journal_behaviour, length, limit_of, option_list, refl}
-use Rattle.flute_streams.proofs.Common.{room, source_of, state_of, subst, sym}
+use Rattle.flute_streams.proofs.Common.{room, source_of, state_of, sym}
 use Rattle.flute_streams.proofs.Common.{unread_of, ℕ, ◌++◌, ◌+◌, ◌∙◌}
 use Rattle.flute_streams.proofs.Common.{◌∷◌, ◌≡◌, ◌≤◌}
 use Rattle.flute_journal.proofs.Public.{ahead-sofar, reads-side, reads-sofar, reads-fault, AtEnd}
@@ -59,12 +59,8 @@ end_again : {limit : ℕ} {u v w : Option (List ℕ)} {new : ReaderState Before}
     {held : Option Fact} → ReadWhole limit u v F → held ≡ None → GivesEnd journal_framing Ended new
     v w → Read limit u w new (F ++ option_list held) None
 end_again {u} {v} {w} {F} r n g =
-    let k : Keeps v w = search rules in (
-      rw
-          (ap (λ h. F ++ option_list h) n ∙ append-nil F)
-          (whole_kept _ u v w F r k),
-      g.ended,
-    )
+    let k : Keeps v w = search rules in
+    (rw (ap (λ h. F ++ option_list h) n ∙ append-nil F) (whole_kept _ u v w F r k), g.ended)
 
 -- the next call reads one entry more, or the end
 read_on : {limit : ℕ} {u v : Option (List ℕ)} (w : Option (List ℕ)) (old new : ReaderState Before)
@@ -114,8 +110,7 @@ gives limit u w state F (Some f) r = record {
   rising = r.are_items.in_order;
   sized = fact_sized f (all_split _ F _ r.are_items.valid).1.0.0;
   ended = λ e. absurd cc;
-  known = λ K k.
-      let a = ahead-sofar _ u w _ _ r k.version K k.valid k.rising k.bytes_are in
+  known = λ K k. let a = ahead-sofar _ u w _ _ r k.version K k.valid k.rising k.bytes_are in
       record { rest = a.0; is = a.1; rising = k.rising; ended = λ e. absurd cc };
 }
 gives limit u w state F None r = record {
@@ -224,8 +219,7 @@ module _ {R : Type 0} (unread : R → Option (List ℕ)) (buffered : R → List 
 
     pub stream_stops : {s t : JournalState R} (f : ReadFault) → HoldsOn s t (Err f)
         → StopsAt b s t (load.Read f)
-    stream_stops {s} {t} f h = λ start F p. let call : Called start s t F (Err f) = search
-        rules in
+    stream_stops {s} {t} f h = λ start F p. let call : Called start s t F (Err f) = search rules in
         let r = stops_on call in
         record { reads = r.reads; fails = search rules; stops = r.has_fault }
 

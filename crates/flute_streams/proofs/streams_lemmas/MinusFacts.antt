@@ -1,7 +1,7 @@
 -- Minus: how its streams go on (specs/MinusStreams).
 use Rattle.std.proofs.Common.{◌≡◌, true, false, List, [], ◌++◌}
-use Rattle.std.proofs.Common.{refl, sym, ap, ◌∙◌, subst, inl, inr}
-use Rattle.std.proofs.Common.{Result, Err, IfErr, Option, Some, None, append-nil, length, arith}
+use Rattle.std.proofs.Common.{refl, sym, ap, ◌∙◌, subst, inl}
+use Rattle.std.proofs.Common.{Result, Err, IfErr, Option, Some, None, append-nil, arith}
 use Rattle.std.proofs.lemmas.Bool.{false≢true}
 use Rattle.std.proofs.lemmas.Option.{none-some}
 use Rattle.std.proofs.lemmas.List.Elements.{filter-append}
@@ -107,10 +107,9 @@ module _ {S T : Type 0} (a : Behaviour S) (b : Behaviour T) where
           }
 
     first_stops : (start : Minus S T) (F G : List Fact) {fault : LoadFault}
-        (B : Between a b start x F) → StopsAt a x.first t.first fault
-        → G ≡ minus (B.all ++ option_list (a.held x.first))
-        (B.others ++ option_list (b.held x.second))
-        → t.second ≡ x.second → t.in_second ≡ false → Stopped w start t G fault
+        (B : Between a b start x F) → StopsAt a x.first t.first fault → G ≡ minus
+        (B.all ++ option_list (a.held x.first)) (B.others ++ option_list (b.held x.second)) →
+        t.second ≡ x.second → t.in_second ≡ false → Stopped w start t G fault
     first_stops start F G B g left same sound =
         let r = g start.first B.all B.first.passes in
         let C = B.others ++ option_list (b.held _) in
@@ -122,78 +121,62 @@ module _ {S T : Type 0} (a : Behaviour S) (b : Behaviour T) where
             second = rw same B.second.reads_held;
             left = left;
           };
-          fails = rw sound
-              (r.stops, r.fails, rw same B.second.fails);
+          fails = rw sound (r.stops, r.fails, rw same B.second.fails);
           stops = inl r.stops;
         }
 
     pub lets_go : x.begun ≡ true → (a.held x.first ≡ None → ⊥) → GoesOn a x.first t.first
         → t.second ≡ x.second → t.begun ≡ true → t.in_second ≡ x.in_second → Walks a b x t
     lets_go e n g same begun sound = record {
-      between = λ start facts p.
-          let q = subst (λ z. Passed a b z start x facts) e p in
+      between = λ start facts p. let q = subst (λ z. Passed a b z start x facts) e p in
           let B = q.0 in
-          first_goes _ _ _ B n g
-          (with_held _ _ _ B.all _ B.left B.behind q.1)
-          (up_to_stay _ _ _ q.1 B.up_to) same begun
-          (sound ∙ B.sound);
+          first_goes _ _ _ B n g (with_held _ _ _ B.all _ B.left B.behind q.1)
+          (up_to_stay _ _ _ q.1 B.up_to) same begun (sound ∙ B.sound);
       begun = begun;
       fewer = g.fewer;
     }
 
     pub lets_go_not : {fault : LoadFault} → x.begun ≡ true → StopsAt a x.first t.first fault
         → t.second ≡ x.second → t.in_second ≡ x.in_second → StopsAt w x t fault
-    lets_go_not e g same sound = λ start facts p.
-        let q = subst (λ z. Passed a b z start x facts) e p in
+    lets_go_not e g same sound = λ start facts p. let q = subst (λ z. Passed a b z start x facts) e
+        p in
         let B = q.0 in
-        first_stops _ _ _ B g
-        (with_held _ _ _ B.all _ B.left B.behind q.1) same
-        (sound ∙ B.sound)
+        first_stops _ _ _ B g (with_held _ _ _ B.all _ B.left B.behind q.1) same (sound ∙ B.sound)
 
-    pub passes_first : turn_of (a.held x.first) (b.held x.second) ≡ First
-        → GoesOn a x.first t.first → t.second ≡ x.second → t.begun ≡ x.begun
-        → t.in_second ≡ x.in_second → Moves a b x t true
+    pub passes_first : turn_of (a.held x.first) (b.held x.second) ≡ First → GoesOn a x.first t.first
+        → t.second ≡ x.second → t.begun ≡ x.begun → t.in_second ≡ x.in_second → Moves a b x t true
     passes_first turn g same begun sound =
         let n = first_holds _ _ turn in
         record {
           walks = λ y v. record {
-            between = λ start facts p.
-                let B = v.between _ _ p in
+            between = λ start facts p. let B = v.between _ _ p in
                 let F = facts ++ option_list (a.held _) in
-                first_goes _ F F B n g
-                (without_held _ _ F _ _ B.left B.behind turn)
-                (up_to_first _ _ _ turn B.up_to) same
-                (begun ∙ v.begun) (sound ∙ B.sound);
+                first_goes _ F F B n g (without_held _ _ F _ _ B.left B.behind turn)
+                (up_to_first _ _ _ turn B.up_to) same (begun ∙ v.begun) (sound ∙ B.sound);
             begun = begun ∙ v.begun;
-            fewer = omega arith ;
+            fewer = omega arith;
           };
           stays = λ e. absurd (false≢true (sym e));
-          less = λ e.
-              let one = some_length _ n in
+          less = λ e. let one = some_length _ n in
               let m = ap (λ s. b.most s) same in
-              omega arith ;
+              omega arith;
         }
 
     pub passes_first_not : {fault : LoadFault} → turn_of (a.held x.first) (b.held x.second) ≡ First
         → StopsAt a x.first t.first fault → t.second ≡ x.second → t.in_second ≡ x.in_second
         → (y : Minus S T) → Walks a b y x → StopsAt w y t fault
-    passes_first_not turn g same sound y v = λ start facts p.
-        let B = v.between _ _ p in
+    passes_first_not turn g same sound y v = λ start facts p. let B = v.between _ _ p in
         let F = facts ++ option_list (a.held _) in
-        first_stops _ F F B g
-        (without_held _ _ F _ _ B.left B.behind turn) same
-        (sound ∙ B.sound)
+        first_stops _ F F B g (without_held _ _ F _ _ B.left B.behind turn) same (sound ∙ B.sound)
 
     -- the second goes on
-    pub passes_second : turn_of (a.held x.first) (b.held x.second) ≡ Second
-        → GoesOn b x.second t.second → t.first ≡ x.first → t.begun ≡ x.begun
-        → t.in_second ≡ false → Moves a b x t true
+    pub passes_second : turn_of (a.held x.first) (b.held x.second) ≡ Second → GoesOn b x.second
+        t.second → t.first ≡ x.first → t.begun ≡ x.begun → t.in_second ≡ false → Moves a b x t true
     passes_second turn g same begun sound =
         let n = second_holds _ _ turn in
         record {
           walks = λ y v. record {
-            between = λ start facts p.
-                let B = v.between _ _ p in
+            between = λ start facts p. let B = v.between _ _ p in
                 let F = facts ++ option_list (a.held _) in
                 let r = g.gave _ _ B.second.passes in
                 record {
@@ -201,25 +184,19 @@ module _ {S T : Type 0} (a : Behaviour S) (b : Behaviour T) where
                   others = B.others ++ option_list (b.held _);
                   first = rw same B.first;
                   second = r;
-                  left = left_second _ F _ _ _ n r.rising
-                      B.up_to B.left;
-                  up_to = up_to_goes _ _ _ _ n r.rising
-                      B.up_to;
-                  behind = rw
-                      same
-                      (behind_second _ _ _ turn B.behind);
+                  left = left_second _ F _ _ _ n r.rising B.up_to B.left;
+                  up_to = up_to_goes _ _ _ _ n r.rising B.up_to;
+                  behind = rw same (behind_second _ _ _ turn B.behind);
                   begun = begun ∙ v.begun;
                   sound = sound;
                 };
             begun = begun ∙ v.begun;
-            fewer = rw
-                same v.fewer;
+            fewer = rw same v.fewer;
           };
           stays = λ e. absurd (false≢true (sym e));
-          less = λ e.
-              let one = some_length _ n in
+          less = λ e. let one = some_length _ n in
               let m = ap (λ s. a.most s) same in
-              omega arith ;
+              omega arith;
         }
 
     -- no more is passed over

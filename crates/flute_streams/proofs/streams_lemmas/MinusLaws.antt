@@ -3,7 +3,7 @@ use Rattle.std.proofs.Common.{◌≡◌, true, false, cond, Bool, not, List, [],
 use Rattle.std.proofs.Common.{refl, sym, ap, ◌∙◌, subst, inl, inr}
 use Rattle.std.proofs.Common.{Option, Some, None}
 use Rattle.std.specs.Prelude.{◌↔◌}
-use Rattle.std.proofs.lemmas.Bool.{cases_Bool, false≢true}
+use Rattle.std.proofs.lemmas.Bool.{cases_Bool}
 use Rattle.std.proofs.lemmas.Option.{none-some, same_Some}
 use Rattle.flute_parts.specs.declared.address.Address.{Address}
 use Rattle.flute_parts.specs.declared.fact.Fact.{Fact}
@@ -38,31 +38,20 @@ has_stays : (f : Fact) (y : Option Fact) → ((g : Fact) → y ≡ Some g → ad
     → not (has y f) ≡ false → joined (address f) (Some f) y ≡ y
 has_stays f None at h = absurd cc
 has_stays f (Some g) at h = elim (cases_Bool _) [
-  | inl c ↦
-      let e = conflict_is g _ (at g refl) c in
-      rw e
-      (ap Some (joined-conflict_right _ f))
+  | inl c ↦ let e = conflict_is g _ (at g refl) c in rw e (ap Some (joined-conflict_right _ f))
   | inr n ↦ elim (cases_Bool _) [
-    | inl t ↦
-        let e = fact_same f g t in
-        ap Some (joined-same _ f g e ∙ e)
+    | inl t ↦ let e = fact_same f g t in ap Some (joined-same _ f g e ∙ e)
     | inr m ↦ absurd cc
   ]
 ]
 
-stays_has : (f : Fact) (y : Option Fact) → joined (address f) (Some f) y ≡ y
-    → not (has y f) ≡ false
+stays_has : (f : Fact) (y : Option Fact) → joined (address f) (Some f) y ≡ y → not (has y f) ≡ false
 stays_has f None h = absurd (none-some f (sym h))
 stays_has f (Some g) h = elim (cases_Bool (same_fact f g)) [
-  | inl t ↦ elim (cases_Bool (is_conflict g)) [
-    | inl c ↦ rw c refl
-    | inr n ↦ rw (n, t) refl
-  ]
-  | inr m ↦
-      let e = same_Some _ g h in
+  | inl t ↦ elim (cases_Bool (is_conflict g)) [ inl c ↦ rw c refl | inr n ↦ rw (n, t) refl ]
+  | inr m ↦ let e = same_Some _ g h in
       let c = subst (λ x. is_conflict x ≡ true) (sym (joined-apart _ f g m) ∙ e)
-      (is_conflict-at f) in
-      rw c refl
+      (is_conflict-at f) in rw c refl
 ]
 
 one_more : (f : Fact) (held : List Fact) (a : Address)
@@ -84,9 +73,8 @@ left_below held f h = record {
 below_left : (held : List Fact) (f : Fact) → Below (f ∷ []) held → changes held f ≡ false
 below_left held f h =
     let a = address f in
-    stays_has f _
-    (ap (λ x. joined a x (fact_at held a)) (sym (alone-at f a refl)) ∙ sym (one_more f _ a)
-    ∙ h.each a)
+    stays_has f _ (ap (λ x. joined a x (fact_at held a)) (sym (alone-at f a refl)) ∙ sym
+    (one_more f _ a) ∙ h.each a)
 
 pub left_out : (held : List Fact) (f : Fact) → (changes held f ≡ false) ↔ Below (f ∷ []) held
 left_out held f = (left_below _ f, below_left _ f)
@@ -101,9 +89,7 @@ left : (F G : List Fact) → Below F (F ++ G)
 left F G = Below-trans F _ _ (right G F) (Below-from_Same _ _ (Same-swap G F))
 
 both : (F G X : List Fact) → Below F X → Below G X → Below (F ++ G) X
-both F G X p q =
-    Below-trans _ _ X (Below-append F X G X p q)
-    (Below-from_Same _ X (Same-twice X))
+both F G X p q = Below-trans _ _ X (Below-append F X G X p q) (Below-from_Same _ X (Same-twice X))
 
 module _ (takes : Fact → Bool) where
   taken_below : (S : List Fact) → Below (filter takes S) S
@@ -111,8 +97,7 @@ module _ (takes : Fact → Bool) where
   taken_below (f ∷ S) = elim (cases_Bool _) [
     | inl e ↦ subst (λ b. Below (cond b (f ∷ filter takes S) (filter takes S)) (f ∷ S)) (sym e)
         (Below-append (f ∷ []) (f ∷ []) _ S (Below-itself _) (taken_below S))
-    | inr e ↦ rw e
-        (Below-trans _ S _ (taken_below S) (right (f ∷ []) S))
+    | inr e ↦ rw e (Below-trans _ S _ (taken_below S) (right (f ∷ []) S))
   ]
 
   taken_again : (S : List Fact) → filter takes (filter takes S) ≡ filter takes S
@@ -141,9 +126,7 @@ all_below F C = go F
         ]
 
 pub enough : (F C : List Fact) → Same (C ++ minus F C) (C ++ F)
-enough F C =
-    Same-from_Below _ _
-    (Below-append C C _ F (Below-itself C) (taken_below _ F))
+enough F C = Same-from_Below _ _ (Below-append C C _ F (Below-itself C) (taken_below _ F))
     (both C F _ (left C _) (all_below F C))
 
 pub not_twice : (F C : List Fact) → Below F C → minus F C ≡ []

@@ -4,7 +4,6 @@ use Rattle.std.proofs.Common.{refl, sym, ap, ◌∙◌, inl, inr, ◌⊎◌}
 use Rattle.std.proofs.Common.{Option, Some, None, append-nil, length}
 use Rattle.std.proofs.Common.{is_eq}
 use Rattle.std.proofs.lemmas.Bool.{cases_Bool}
-use Rattle.std.proofs.lemmas.Option.{none-some}
 use Rattle.std.proofs.lemmas.List.Elements.{filter-append}
 use Rattle.std.specs.declared.cmp.Ordering.{Ordering}
 use Rattle.std.specs.declared.cmp.Ordering.TheVariants.{Less, Equal, Greater}
@@ -57,18 +56,15 @@ in_turn f g e = subst (InTurn f g) e (in_turn_at f g (address_cmp (address f) (a
 
 stay_changes : (f : Fact) (G : List Fact) (held : Option Fact) → Behind (Some f) G
     → turn_of (Some f) held ≡ Stay → changes (G ++ option_list held) f ≡ true
-stay_changes f G None s t =
-    ap (λ x. not (has x f)) (before_value _ G [] s ∙ fact_at-nil _)
-stay_changes f G (Some g) s t =
-    ap (λ x. not (has x f)) (before_value _ G (g ∷ []) s)
-    ∙ (in_turn f g t).0
+stay_changes f G None s t = ap (λ x. not (has x f)) (before_value _ G [] s ∙ fact_at-nil _)
+stay_changes f G (Some g) s t = ap (λ x. not (has x f)) (before_value _ G (g ∷ []) s) ∙
+    (in_turn f g t).0
 
 first_keeps : (f : Fact) (G : List Fact) (held : Option Fact) → Behind (Some f) G
     → turn_of (Some f) held ≡ First → changes (G ++ option_list held) f ≡ false
 first_keeps f G None s t = absurd cc
-first_keeps f G (Some g) s t =
-    ap (λ x. not (has x f)) (before_value _ G (g ∷ []) s)
-    ∙ (in_turn f g t).0
+first_keeps f G (Some g) s t = ap (λ x. not (has x f)) (before_value _ G (g ∷ []) s) ∙
+    (in_turn f g t).0
 
 -- what is left
 
@@ -78,40 +74,34 @@ pub untouched : (g : Fact) (F X R : List Fact) → UpTo (Some g) F → StandAfte
 untouched g [] X R u s = refl
 untouched g (f ∷ F) X R u s =
     let a = address f in
-    let after : StandAfter a R = elim u.0 [
-      | inl l ↦ StandAfter-before a _ R l s
-      | inr e ↦ rw e s
-    ] in
-    let e = ap (λ x. not (has x f)) (fact_at-append X R a ∙ ap (joined a _)
-    (fact_at-after a R after) ∙ joined-none a _) in
-    ap (λ b. cond b (f ∷ minus F (X ++ R)) (minus F (X ++ R))) e
-    ∙ ap (λ l. cond (changes X f) (f ∷ l) l) (untouched g F X R u.1 s)
+    let after : StandAfter a R = elim u.0 [ inl l ↦ StandAfter-before a _ R l s | inr e ↦ rw e s ]
+    in
+    let e = ap (λ x. not (has x f))
+    (fact_at-append X R a ∙ ap (joined a _) (fact_at-after a R after) ∙ joined-none a _) in ap
+    (λ b. cond b (f ∷ minus F (X ++ R)) (minus F (X ++ R))) e ∙ ap
+    (λ l. cond (changes X f) (f ∷ l) l) (untouched g F X R u.1 s)
 
-pub with_held : (held other : Option Fact) (F all others : List Fact)
-    → F ≡ minus all (others ++ option_list other) → Behind held others
-    → turn_of held other ≡ Stay
-    → F ++ option_list held ≡ minus (all ++ option_list held) (others ++ option_list other)
+pub with_held : (held other : Option Fact) (F all others : List Fact) → F ≡ minus all
+    (others ++ option_list other) → Behind held others → turn_of held other ≡ Stay → F ++
+    option_list held ≡ minus (all ++ option_list held) (others ++ option_list other)
 with_held None other F all others e s t =
     append-nil F ∙ e ∙ ap (λ l. minus l (others ++ option_list other)) (sym (append-nil _))
 with_held (Some f) other F all others e s t =
     let C = others ++ option_list other in
-    ap (λ l. l ++ f ∷ []) e
-    ∙ ap (λ l. minus all C ++ l)
-    (sym (ap (λ b. cond b (f ∷ []) []) (stay_changes f _ _ s t)))
-    ∙ sym (filter-append (changes C) all (f ∷ []))
+    ap (λ l. l ++ f ∷ []) e ∙ ap (λ l. minus all C ++ l)
+    (sym (ap (λ b. cond b (f ∷ []) []) (stay_changes f _ _ s t))) ∙ sym
+    (filter-append (changes C) all (f ∷ []))
 
-pub without_held : (held other : Option Fact) (F all others : List Fact)
-    → F ≡ minus all (others ++ option_list other) → Behind held others
-    → turn_of held other ≡ First
-    → F ≡ minus (all ++ option_list held) (others ++ option_list other)
+pub without_held : (held other : Option Fact) (F all others : List Fact) → F ≡ minus all
+    (others ++ option_list other) → Behind held others → turn_of held other ≡ First → F ≡ minus
+    (all ++ option_list held) (others ++ option_list other)
 without_held None None F all others e s t = absurd cc
 without_held None (Some g) F all others e s t = absurd cc
 without_held (Some f) other F all others e s t =
     let C = others ++ option_list other in
-    e ∙ sym (append-nil _)
-    ∙ ap (λ l. minus all C ++ l)
-    (sym (ap (λ b. cond b (f ∷ []) []) (first_keeps f _ _ s t)))
-    ∙ sym (filter-append (changes C) all (f ∷ []))
+    e ∙ sym (append-nil _) ∙ ap (λ l. minus all C ++ l)
+    (sym (ap (λ b. cond b (f ∷ []) []) (first_keeps f _ _ s t))) ∙ sym
+    (filter-append (changes C) all (f ∷ []))
 
 -- rising facts
 
@@ -139,15 +129,13 @@ pub up_to_stay : (held other : Option Fact) (F : List Fact) → turn_of held oth
     → UpTo other F → UpTo other (F ++ option_list held)
 up_to_stay held None F t u = tt
 up_to_stay None (Some g) F t u = absurd cc
-up_to_stay (Some f) (Some g) F t u =
-    up_to_more g f F ((in_turn f g t).1) u
+up_to_stay (Some f) (Some g) F t u = up_to_more g f F ((in_turn f g t).1) u
 
 pub up_to_first : (held other : Option Fact) (F : List Fact) → turn_of held other ≡ First
     → UpTo other F → UpTo other (F ++ option_list held)
 up_to_first held None F t u = tt
 up_to_first None (Some g) F t u = absurd cc
-up_to_first (Some f) (Some g) F t u =
-    up_to_more g f F (inr (in_turn f g t).1) u
+up_to_first (Some f) (Some g) F t u = up_to_more g f F (inr (in_turn f g t).1) u
 
 pub behind_goes : (held next : Option Fact) (F G : List Fact) → (held ≡ None → ⊥)
     → IsRising ((F ++ option_list held) ++ option_list next) → Behind held G → Behind next G
@@ -166,17 +154,14 @@ pub behind_second : (held other : Option Fact) (G : List Fact) → turn_of held 
     → Behind held G → Behind held (G ++ option_list other)
 behind_second None other G t s = tt
 behind_second (Some f) None G t s = absurd cc
-behind_second (Some f) (Some g) G t s =
-    before_more _ g G (in_turn f g t) s
+behind_second (Some f) (Some g) G t s = before_more _ g G (in_turn f g t) s
 
 module _ (next : Option Fact) (F all G : List Fact) where
-  pub left_second : (other : Option Fact) → (other ≡ None → ⊥)
-      → IsRising ((G ++ option_list other) ++ option_list next) → UpTo other all
-      → F ≡ minus all (G ++ option_list other)
-      → F ≡ minus all ((G ++ option_list other) ++ option_list next)
+  pub left_second : (other : Option Fact) → (other ≡ None → ⊥) → IsRising
+      ((G ++ option_list other) ++ option_list next) → UpTo other all → F ≡ minus all
+      (G ++ option_list other) → F ≡ minus all ((G ++ option_list other) ++ option_list next)
   left_second None n r u e = absurd (n refl)
-  left_second (Some g) n r u e =
-      e ∙ sym (untouched g _ _ _ u (rising_after G g _ r))
+  left_second (Some g) n r u e = e ∙ sym (untouched g _ _ _ u (rising_after G g _ r))
 
 pub first_holds : (held other : Option Fact) → turn_of held other ≡ First → held ≡ None → ⊥
 first_holds None None t e = cc

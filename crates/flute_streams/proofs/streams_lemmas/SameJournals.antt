@@ -12,8 +12,7 @@ of_others v bytes F G same journal =
       collects = record {
         valid = j.collects.valid;
         rising = j.collects.rising;
-        same =
-            Same-trans G F _ same j.collects.same;
+        same = Same-trans G F _ same j.collects.same;
       };
       small = j.small;
       bytes_are = j.bytes_are;

@@ -10,13 +10,12 @@ all_same : (groups joined : List (List Fact)) → Each Collects groups joined
 all_same [] [] h = Same-itself []
 all_same [] (E ∷ joined) h = absurd h
 all_same (F ∷ groups) [] h = absurd h
-all_same (F ∷ groups) (E ∷ joined) h =
-    Same-append F E _ _ h.0.same (all_same groups joined h.1)
+all_same (F ∷ groups) (E ∷ joined) h = Same-append F E _ _ h.0.same (all_same groups joined h.1)
 
 pub returns : goal.returns
 returns c v groups joined h bytes =
     let same = all_same groups joined h in (
       of_others v bytes (all_of joined) (all_of groups) same,
-      of_others v bytes (all_of groups) (all_of joined)
-          (Same-sym (all_of groups) (all_of joined) same),
+      of_others v bytes (all_of groups)
+          (all_of joined) (Same-sym (all_of groups) (all_of joined) same),
     )

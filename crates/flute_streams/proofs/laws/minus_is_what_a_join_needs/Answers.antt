@@ -17,7 +17,8 @@ returns-clause-bytes c v facts held bytes =
     let same = enough facts held in (
       of_others v bytes (held ++ minus facts held) (held ++ facts)
           (Same-sym (held ++ minus facts held) (held ++ facts) same),
-      of_others v bytes (held ++ facts) (held ++ minus facts held) same,
+      of_others v bytes (held ++ facts)
+          (held ++ minus facts held) same,
     )
 
 pub returns-clause-held : goal.returns-clause-held

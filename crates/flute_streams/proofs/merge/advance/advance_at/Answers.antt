@@ -21,22 +21,21 @@ loop-number-preserved g c =
     let k = c.loop-number.number in
     let x = item_at now k (omega (arith, i.all, c.loop-number-test.true)) in
     elim c.if-stands_at.branch [
-      | then-stands_at+in_default w ↦
-          let a = w.in_default.ensures.advances in
-          rw (w.streams-is, w.moved-is) (record {
-            went = one_goes b place i.went a
-                (ap (λ s. address_of (held_in b s)) (sym a.was) ∙ c.stands_at.ensures.at w.if-stands_at.true);
+      | then-stands_at+in_default w ↦ let a = w.in_default.ensures.advances in rw
+          (w.streams-is, w.moved-is) (record {
+            went = one_goes b place i.went a (ap (λ s. address_of (held_in b s)) (sym a.was) ∙
+                c.stands_at.ensures.at w.if-stands_at.true);
             all = same_length b k now _ a ∙ i.all;
             names = w.advance.ensures.names ∙ i.names;
             count = omega (arith, i.count);
             last = λ h. omega arith;
           })
       | else-stands_at w ↦ rw (w.streams-is, w.moved-is) (record {
-          went = one_stays b place i.went x.1 (λ e. c.stands_at.ensures.elsewhere w.if-stands_at.false
-              (ap (λ s. address_of (held_in b s)) x.1 ∙ e));
-          all = i.all;
-          names = i.names;
-          count = omega (arith, i.count);
-          last = λ h. omega (arith, h, i.last);
-        })
+        went = one_stays b place i.went x.1 (λ e. c.stands_at.ensures.elsewhere
+            w.if-stands_at.false (ap (λ s. address_of (held_in b s)) x.1 ∙ e));
+        all = i.all;
+        names = i.names;
+        count = omega (arith, i.count);
+        last = λ h. omega (arith, h, i.last);
+      })
     ]

@@ -1,9 +1,9 @@
 -- merge_into: each exit follows by a lemma on the state of the merge before it.
 use Rattle.std.proofs.Common.{rules}
-use Rattle.flute_streams.proofs.Common.{◌≡◌, ◌≢◌, ◌⊎◌, ◌+◌, ℕ, Bool, Fact, List, [], ◌∷◌, ◌++◌}
-use Rattle.flute_streams.proofs.Common.{true, false, IfSome, Some, ap, arith}
-use Rattle.flute_streams.proofs.Common.{option_copied, subst, sym, ◌∙◌}
-use Rattle.flute_streams.proofs.Common.{header, entry, end, GoOnAt, IsCounted}
+use Rattle.flute_streams.proofs.Common.{◌≡◌, ◌≢◌, ◌⊎◌, ◌+◌, ℕ, Bool, []}
+use Rattle.flute_streams.proofs.Common.{true, false, ap, arith}
+use Rattle.flute_streams.proofs.Common.{option_copied, ◌∙◌}
+use Rattle.flute_streams.proofs.Common.{header, entry, end, IsCounted}
 use Rattle.flute_journal.proofs.Public.{puts-part, left_out}
 use Rattle.flute_streams.proofs.merge_lemmas.Finished.{cut_journal}
 use Rattle.flute_streams.proofs.merge_lemmas.Places.{at_lowest, none-new, placed, stands-within}
@@ -13,7 +13,6 @@ use Rattle.flute_streams.proofs.merge_lemmas.StreamStates.{turn-falls, sized-low
 use Rattle.flute_streams.proofs.merge_lemmas.StreamStates.{no_failure, stop_entry, stop_input}
 use Rattle.flute_streams.proofs.merge_lemmas.StreamStates.{stop_end, finished, spelled_now}
 use Rattle.flute_streams.proofs.merge_lemmas.StreamStates.{State, counted, over_more}
-use Rattle.flute_store.specs.Walk.{IsSized}
 use Rattle.flute_streams.proofs.merge.all_streams.merge_into.Given.{Over}
 use Rattle.flute_streams.proofs.merge.all_streams.merge_into.Goals.{then-within, else-within}
 use Rattle.flute_streams.proofs.merge.all_streams.merge_into.Goals as goal
@@ -35,8 +34,7 @@ pub returns-in-Err : goal.returns-in-Err
 returns-in-Err g c =
     let s = stop_first g.G.Streams.behaviour c.args.patient (g.G.Streams.streams c.args.streams.now)
     (g.G.Streams.streams c.advance_at.new.streams) (g.W.Sink.written c.args.writer.now.sink.now)
-    c.in-Err.fault c.requires.new c.in-Err.ensures.stops in
-    record {
+    c.in-Err.fault c.requires.new c.in-Err.ensures.stops in record {
       merged = tt;
       told = tt;
       told_all = tt;
@@ -101,10 +99,9 @@ returns-then-not-patient-2 g c =
     c.in-Some.ensures.stands c.in-Some.ensures.lowest c.write_lowest.ensures.valid
     c.write_lowest.ensures.puts in
     let good = i.eager c.if-not-patient-2.true in
-    let s = stop_entry _ i.state v.lowest v.valid c.args.patient
-    good (puts-part c.loop-lowest.writer.failed c.write_lowest.new.writer.failed _ _
-    (entry v.value.fact) good c.if-writer-2.true v.puts.puts) in
-    record {
+    let s = stop_entry _ i.state v.lowest v.valid c.args.patient good (puts-part
+    c.loop-lowest.writer.failed c.write_lowest.new.writer.failed _ _ (entry v.value.fact) good
+    c.if-writer-2.true v.puts.puts) in record {
       merged = tt;
       told = tt;
       told_all = tt;
@@ -130,13 +127,11 @@ returns-in-Err-advance g c =
     let v = written_at g.G.Streams.behaviour (g.G.Streams.streams c.loop-lowest.streams)
     c.in-Some.ensures.stands c.in-Some.ensures.lowest c.write_lowest.ensures.valid
     c.write_lowest.ensures.puts in
-    let at = placed g.G.Streams.behaviour _ v.value
-    c.in-Some.ensures.stands c.address.ensures (ap option_copied c.in-Some-address.is) in
-    let s = stop_input _ i.state v.lowest v.valid c.args.patient
-    c.write_lowest.new.writer.failed (g.G.Streams.streams c.advance.new.streams) _
-    c.in-Err-advance.fault v.puts.puts (goes_on c.else-writer-2.either)
-    (rw (← at) at c.in-Err-advance.ensures.stops) in
-    record {
+    let at = placed g.G.Streams.behaviour _ v.value c.in-Some.ensures.stands c.address.ensures
+    (ap option_copied c.in-Some-address.is) in
+    let s = stop_input _ i.state v.lowest v.valid c.args.patient c.write_lowest.new.writer.failed
+    (g.G.Streams.streams c.advance.new.streams) _ c.in-Err-advance.fault v.puts.puts
+    (goes_on c.else-writer-2.either) (rw (← at) at c.in-Err-advance.ensures.stops) in record {
       merged = tt;
       told = tt;
       told_all = tt;
@@ -179,8 +174,7 @@ next g c =
     ]) v.puts.puts (rw at c.in_default-advance.ensures.go_on)
 
 pub overflow_add-entries : goal.overflow_add-entries
-overflow_add-entries g c =
-    omega (arith, few-joined _ (next g c), c.requires.few)
+overflow_add-entries g c = omega (arith, few-joined _ (next g c), c.requires.few)
 
 pub loop-lowest-preserved : goal.loop-lowest-preserved
 loop-lowest-preserved g c =
@@ -210,10 +204,9 @@ pub returns-then-not-patient-3 : goal.returns-then-not-patient-3
 returns-then-not-patient-3 g c =
     let i = c.loop-lowest.invariant in
     let good = i.eager c.if-not-patient-3.true in
-    let s = stop_end _ i.state c.in_default-lowest.ensures.lowest c.args.patient
-    good (puts-part c.loop-lowest.writer.failed c.end.new.self.failed _ _
-    (end c.loop-lowest.entries) good c.if-writer-3.true c.end.ensures.puts) in
-    record {
+    let s = stop_end _ i.state c.in_default-lowest.ensures.lowest c.args.patient good (puts-part
+    c.loop-lowest.writer.failed c.end.new.self.failed _ _ (end c.loop-lowest.entries) good
+    c.if-writer-3.true c.end.ensures.puts) in record {
       merged = tt;
       told = tt;
       told_all = tt;
@@ -235,10 +228,8 @@ returns-then-not-patient-3 g c =
 pub returns : goal.returns
 returns g c =
     let i = c.loop-lowest.invariant in
-    let e = finished _ _ _
-    c.end.new.self.failed i.state _ c.requires.few c.in_default-lowest.ensures.lowest
-    c.end.ensures.puts in
-    record {
+    let e = finished _ _ _ c.end.new.self.failed i.state _ c.requires.few
+    c.in_default-lowest.ensures.lowest c.end.ensures.puts in record {
       merged = e.merged;
       told = search rules;
       told_all = search rules;

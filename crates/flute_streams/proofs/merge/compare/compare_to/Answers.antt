@@ -37,8 +37,7 @@ returns-in-Ok-row-clause-compared g c =
       taken = g.met.V.Rows.more c.args.rows.now c.loop-meeting.rows c.row.new.self i.rows last
           i.taken c.in-Ok-row.ensures.taken;
       so = counts_end g.S.Stream.behaviour g.T.Stream.behaviour c.requires.first_few
-          c.requires.second_few i.so
-          (sym c.meet.ensures ∙ c.in_default.is)
+          c.requires.second_few i.so (sym c.meet.ensures ∙ c.in_default.is)
           (ap (λ r. i.rows ++ option_row r) (sym c.in-Some-row.is));
     }
 
@@ -49,8 +48,7 @@ returns-in-None-clause-compared g c =
       rows = i.rows;
       taken = i.taken;
       so = counts_end g.S.Stream.behaviour g.T.Stream.behaviour c.requires.first_few
-          c.requires.second_few i.so
-          (sym c.meet.ensures ∙ c.in_default.is)
+          c.requires.second_few i.so (sym c.meet.ensures ∙ c.in_default.is)
           (sym (append-nil i.rows) ∙ ap (λ r. i.rows ++ option_row r) (sym c.in-None.is));
     }
 
@@ -59,9 +57,8 @@ returns-in_err-go_on-2-clause-rows g c =
     let i = c.loop-meeting.invariant in
     let more = to_tell c.loop-meeting.row c.in-Some.meeting.at.key in
     let result = c.from_residual-in_err-go_on-2.result in
-    told _ result (err_from_is_err_and result c.from_residual-in_err-go_on-2.ensures.1)
-    (told_before g.S.Stream.behaviour g.T.Stream.behaviour c.in-Some.meeting.side _ _ _ _
-    g.V.Rows.takes g.V.Rows.fails c.args.rows.now c.count.new.rows (i.rows ++ more) _
-    c.in_err-go_on-2.ensures.stops
-    (g.met.V.Rows.more c.args.rows.now c.loop-meeting.rows c.count.new.rows i.rows more i.taken
-    c.in-Ok.ensures.told))
+    told _ result (err_from_is_err_and result c.from_residual-in_err-go_on-2.ensures.1) (told_before
+    g.S.Stream.behaviour g.T.Stream.behaviour c.in-Some.meeting.side _ _ _ _ g.V.Rows.takes
+    g.V.Rows.fails c.args.rows.now c.count.new.rows (i.rows ++ more) _
+    c.in_err-go_on-2.ensures.stops (g.met.V.Rows.more c.args.rows.now c.loop-meeting.rows
+    c.count.new.rows i.rows more i.taken c.in-Ok.ensures.told))

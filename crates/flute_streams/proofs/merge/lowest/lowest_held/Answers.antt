@@ -29,18 +29,15 @@ loop-number-preserved g c =
     let xs = g.G.Streams.streams c.args.streams.now in
     let k = c.loop-number.number in
     let before = heads b (take k xs) in
-    let within : k < length xs =
-    omega (arith, c.loop-number-test.true, c.count-number-end.ensures) in
-    elim c.match-address.branch [
+    let within : k < length xs = omega (arith, c.loop-number-test.true, c.count-number-end.ensures)
+    in elim c.match-address.branch [
       | in-Some w ↦ rw (w.lowest-is, heads-more b xs k within) (record {
-          lowest = w.with_more.ensures.lowest before c.loop-number.invariant.lowest;
-          stands = w.with_more.ensures.stands;
-        })
-      | in_default w ↦
-          let none = place-none _
-          (sym (read-at b xs k address_of within c.address.ensures)
-          ∙ ap option_copied w.in_default.is) in
-          rw (w.lowest-is, heads-more b xs k within, none, append-nil before) (record {
+        lowest = w.with_more.ensures.lowest before c.loop-number.invariant.lowest;
+        stands = w.with_more.ensures.stands;
+      })
+      | in_default w ↦ let none = place-none _ (sym
+          (read-at b xs k address_of within c.address.ensures) ∙ ap option_copied w.in_default.is)
+          in rw (w.lowest-is, heads-more b xs k within, none, append-nil before) (record {
             lowest = c.loop-number.invariant.lowest;
             stands = c.loop-number.invariant.stands;
           })

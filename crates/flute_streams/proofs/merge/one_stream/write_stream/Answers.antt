@@ -1,5 +1,5 @@
 -- write_stream: all that is written of it is a part of its journal.
-use Rattle.flute_streams.proofs.Common.{List, [], ◌∷◌, append-nil, sym, subst, Fact, Journal}
+use Rattle.flute_streams.proofs.Common.{[], ◌∷◌, append-nil}
 use Rattle.flute_streams.proofs.merge.one_stream.write_stream.Goals as goal
 
 pub returns-in-Err-clause-short : goal.returns-in-Err-clause-short

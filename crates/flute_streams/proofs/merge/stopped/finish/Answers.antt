@@ -1,5 +1,4 @@
 use Rattle.std.proofs.Common.{rules}
-use Rattle.flute_streams.proofs.Common.{fact_in}
 use Rattle.flute_streams.proofs.merge_lemmas.Finished.{read-more, read-falls, read-told, some_held}
 use Rattle.flute_streams.proofs.merge_lemmas.Finished.{none_held}
 use Rattle.flute_streams.proofs.merge.stopped.finish.Goals as goal
@@ -12,10 +11,8 @@ loop-alloc-preserved g c = record {
 }
 
 pub loop-alloc-smaller : goal.loop-alloc-smaller
-loop-alloc-smaller g c =
-    read-falls _ _ _ _ _ c.head.ensures
-    (some_held _ _ c.is_some.ensures c.loop-alloc-test.true)
-    c.in_ok-advance.ensures.advances
+loop-alloc-smaller g c = read-falls _ _ _ _ _ c.head.ensures
+    (some_held _ _ c.is_some.ensures c.loop-alloc-test.true) c.in_ok-advance.ensures.advances
 
 pub returns-clause-told : goal.returns-clause-told
 returns-clause-told g c = read-told g.G.Streams.behaviour c.loop-alloc.invariant.on c.head.ensures

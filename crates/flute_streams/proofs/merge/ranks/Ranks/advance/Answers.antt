@@ -18,8 +18,6 @@ use Rattle.flute_streams.proofs.merge.ranks.Ranks.advance.Goals as goal
 pub returns-in-Err-clause-stops : goal.returns-in-Err-clause-stops
 returns-in-Err-clause-stops g c =
     let b = g.G.Streams.behaviour in
-    let old = g.G.Streams.streams c.args.streams.now in
-    let now = g.G.Streams.streams c.loop-number.streams in
     let i = c.loop-number.invariant in
     let found = c.in-Some.ensures.next in
     let rank = c.number_of-rank.result in
@@ -44,19 +42,17 @@ loop-number-preserved g c =
     let k = c.in-Some.number in
     let key = c.args.place.now.key in
     let at = same_place c.args.place.now key rank refl c.number_of-rank.ensures.part in
-    let apart = passed_elsewhere b key rank c.loop-number.next k at found.3 i.ranked in
     let went = more_stay b (Some c.args.place.now) (k - c.loop-number.next) (omega (arith, found.0))
-    (omega (arith, found.1, i.all)) apart i.went in
+    (omega (arith, found.1, i.all))
+    (passed_elsewhere b key rank c.loop-number.next k at found.3 i.ranked) i.went in
     let ranked = rest_from b key c.loop-number.next k found.0 i.ranked in
     let few = (ranked_of b _ c.args.self.now key c.requires.object c.requires.ranking).few in
     let within : k < 128 = omega (arith, found.1, few, c.count-all.ensures) in
     elim c.if-self-number.branch [
-      | then-self-number+in_default-advance w ↦
-          let a = w.in_default-advance.ensures.advances in
-          let there =
-          (i.ranked.from k a.before (inl found.0) a.was).exact
-          (omega (arith, w.if-self-number.true, c.number_of-rank.ensures.few))
-          ∙ ap (λ r. Some (place_at_rank key r)) w.if-self-number.true ∙ ap Some (sym at) in
+      | then-self-number+in_default-advance w ↦ let a = w.in_default-advance.ensures.advances in
+          let there = (i.ranked.from k a.before (inl found.0) a.was).exact
+          (omega (arith, w.if-self-number.true, c.number_of-rank.ensures.few)) ∙ ap
+          (λ r. Some (place_at_rank key r)) w.if-self-number.true ∙ ap Some (sym at) in
           let set = w.rank_one-known in
           let m : Reranked b key k set.result (g.G.Streams.streams c.loop-number.streams)
           (g.G.Streams.streams w.advance.new.self) c.loop-number.self.ranks set.new.self.ranks =
@@ -64,8 +60,7 @@ loop-number-preserved g c =
             advanced = a;
             ranked = λ e s at. rw (← w.address.ensures s at) (set.ensures.set e);
             stay = set.ensures.others;
-          } in
-          rw (w.streams-is, w.self-is, w.block-is, w.moved-is) (record {
+          } in rw (w.streams-is, w.self-is, w.block-is, w.moved-is) (record {
             went = one_goes b (Some c.args.place.now) went a there;
             all = same_length b k _ _ a ∙ i.all;
             names = w.advance.ensures.names ∙ i.names;
@@ -78,13 +73,12 @@ loop-number-preserved g c =
             count = omega (arith, i.count, found.0);
             last = λ h. omega arith;
           })
-      | else-self-number w ↦
-          let x = item_at _ k (omega (arith, found.1, i.all)) in
-          let lower : slice_index c.loop-number.self.ranks k < rank =
-          omega (arith, found.2, w.if-self-number.false) in
-          let stays = lower-elsewhere c.args.place.now key rank _ at
-          lower c.number_of-rank.ensures.few (i.ranked.from k x.0 (inl found.0) x.1) in
-          rw (w.streams-is, w.self-is, w.block-is, w.moved-is, w.known-is) (record {
+      | else-self-number w ↦ let x = item_at _ k (omega (arith, found.1, i.all)) in
+          let lower : slice_index c.loop-number.self.ranks k < rank = omega
+          (arith, found.2, w.if-self-number.false) in
+          let stays = lower-elsewhere c.args.place.now key rank _ at lower
+          c.number_of-rank.ensures.few (i.ranked.from k x.0 (inl found.0) x.1) in rw
+          (w.streams-is, w.self-is, w.block-is, w.moved-is, w.known-is) (record {
             went = one_stays b (Some c.args.place.now) went x.1 stays;
             all = i.all;
             names = i.names;
@@ -102,8 +96,8 @@ pub returns-then-not-known-clause-go_on : goal.returns-then-not-known-clause-go_
 returns-then-not-known-clause-go_on g c =
     let i = c.loop-number.invariant in
     let at = same_place c.args.place.now c.args.place.now.key c.number_of-rank.result refl
-    c.number_of-rank.ensures.part in went_all g.G.Streams.behaviour c.args.place.now.key
-    c.args.place.now at (c.in_default.ensures.none refl) i.ranked i.next i.all i.went
+    c.number_of-rank.ensures.part in
+    went_all g.G.Streams.behaviour _ _ at (c.in_default.ensures.none refl) i.ranked i.next i.all i.went
 
 pub returns-else-not-known-clause-go_on : goal.returns-else-not-known-clause-go_on
 returns-else-not-known-clause-go_on g c = search (rules, same_place, went_all)

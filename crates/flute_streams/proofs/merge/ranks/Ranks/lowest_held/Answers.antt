@@ -1,6 +1,6 @@
 -- One stream more: those before it are passed over, and what it holds is joined.
-use Rattle.flute_streams.proofs.Common.{IfSome, IsLowest, Key, Lowest, Some, arith, heads, length}
-use Rattle.flute_streams.proofs.Common.{refl, subst, sym, take, take_all, ◌<◌, ◌∙◌, ◌≡◌, ◌≤◌, ◌/◌}
+use Rattle.flute_streams.proofs.Common.{Key, Lowest, Some, arith, heads, length}
+use Rattle.flute_streams.proofs.Common.{refl, sym, take, take_all, ◌<◌, ◌∙◌, ◌≡◌, ◌≤◌, ◌/◌}
 use Rattle.flute_streams.proofs.merge_lemmas.Places.{comes-alone, comes-joined, has_value}
 use Rattle.flute_streams.proofs.merge_lemmas.Places.{place-joined, some-of}
 use Rattle.flute_streams.proofs.merge_lemmas.RankFacts.{comes-lowest, comes-none}
@@ -25,8 +25,8 @@ loop-number-init g c =
     record {
       comes = λ key is. let place = place_at_rank key rank in
           let ranked = ranked_of b streams c.args.self.now key is c.requires.ranking in
-          comes-more b streams k place _ within (comes-alone b streams (heads b (take k streams)) k
-          place (on key is) (comes-up-to b streams place 0 k found.0 (omega (arith, within)) refl
+          comes-more b streams k place _ within (comes-alone b streams _ k
+          place (on key is) (comes-up-to b streams _ 0 k found.0 (omega (arith, within)) refl
           found.3 ranked (comes-none place)));
       stands = on;
       number = refl;
@@ -57,23 +57,17 @@ loop-number-preserved g c =
     let found = c.in-Some.ensures.next in
     let rank = c.lowest_in-rank.result in
     let within : k < length streams = omega (arith, found.1, c.count-all.ensures) in
-    let on : (key : Key) → c.args.self.now.key ≡ Some key
-    → StandsOn b (place_at_rank key rank) streams (first_at k) =
-    λ key is. stands-ranked b key k within
+    let on : (key : Key) → c.args.self.now.key ≡ Some key → StandsOn b (place_at_rank key rank)
+    streams (first_at k) = λ key is. stands-ranked b key k within
     (ranked_of b streams c.args.self.now key is c.requires.ranking) found.2
     (c.lowest_in-rank.ensures (k / 8) (omega arith) (omega (arith, found.1))) (omega arith) in
     record {
-      comes = λ key is.
-          let place = place_at_rank key rank in
+      comes = λ key is. let place = place_at_rank key rank in
           let ranked = ranked_of b streams c.args.self.now key is c.requires.ranking in
-          comes-more b streams k place _ within
-          (comes-joined b streams (heads b (take k streams)) k place (on key is) l
-          c.joined-lowest.result (i.stands key is) c.joined-lowest.ensures
-          (comes-up-to b streams place c.loop-number.next k found.0 (omega (arith, within)) refl
-          found.3 ranked (i.comes key is)));
-      stands = λ key is.
-          place-joined b streams l k c.joined-lowest.result c.joined-lowest.ensures
-          ∙ i.stands key is;
+          comes-more b streams k place _ within (comes-joined b streams _ k place (on key is) l _
+          (i.stands key is) c.joined-lowest.ensures (comes-up-to b streams _ c.loop-number.next k
+          found.0 (omega (arith, within)) refl found.3 ranked (i.comes key is)));
+      stands = λ key is. place-joined b streams l k _ c.joined-lowest.ensures ∙ i.stands key is;
       number = c.joined-lowest.ensures.number ∙ i.number;
       next = omega (arith, found.1);
     }
@@ -89,11 +83,9 @@ returns-clause-lowest g c =
     let ranked = ranked_of b streams c.args.self.now key c.in_ok-self.was c.requires.ranking in
     let all = c.count-all.result in
     let within : all ≤ length streams = omega (arith, c.count-all.ensures) in
-    let whole : take all streams ≡ streams = take_all all streams
-    (omega (arith, c.count-all.ensures)) in
+    let whole = take_all all streams (omega (arith, c.count-all.ensures)) in
     let v = has_value b streams l (place, i.stands key c.in_ok-self.was) in
-    subst (IsLowest (heads b streams)) (sym v.is) (some-of (Lowest (heads b streams)) v.is (subst
-    (λ xs. IfSome (value_at b streams l) (Lowest (heads b xs))) whole (comes-lowest place
+    rw v.is (some-of (Lowest (heads b streams)) v.is (rw whole at (comes-lowest place
     (heads b (take all streams)) (value_at b streams l) (comes-up-to b streams place
     c.loop-number.next all i.next within refl (c.in_default.ensures.none refl) ranked
     (i.comes key c.in_ok-self.was)))))

@@ -4,9 +4,8 @@ use Rattle.flute_streams.specs.Eithers.{held_either}
 use Rattle.flute_streams.proofs.streams.chained.ChainedStreams.address.Goals as goal
 
 pub address-requires-else-number-eq0 : goal.address-requires-else-number-eq0
-address-requires-else-number-eq0 g c =
-    far g.A.Stream.behaviour g.G.Streams.behaviour c.args.self.now.first.now
-    _ _ c.requires c.if-number-eq0.false
+address-requires-else-number-eq0 g c = far g.A.Stream.behaviour g.G.Streams.behaviour
+    c.args.self.now.first.now _ _ c.requires c.if-number-eq0.false
 
 pub returns-else-number-eq0 : goal.returns-else-number-eq0
 returns-else-number-eq0 g c =

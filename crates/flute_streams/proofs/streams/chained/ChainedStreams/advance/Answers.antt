@@ -5,9 +5,8 @@ use Rattle.flute_streams.proofs.streams_lemmas.Chaining.{far, other_advances}
 use Rattle.flute_streams.proofs.streams.chained.ChainedStreams.advance.Goals as goal
 
 pub advance-requires-else-number-eq0 : goal.advance-requires-else-number-eq0
-advance-requires-else-number-eq0 g c =
-    far g.A.Stream.behaviour g.G.Streams.behaviour c.args.self.now.first.now
-    _ _ c.requires c.if-number-eq0.false
+advance-requires-else-number-eq0 g c = far g.A.Stream.behaviour g.G.Streams.behaviour
+    c.args.self.now.first.now _ _ c.requires c.if-number-eq0.false
 
 pub returns-then-number-eq0-clause-advances : goal.returns-then-number-eq0-clause-advances
 returns-then-number-eq0-clause-advances g c = search (rules, first_advances)

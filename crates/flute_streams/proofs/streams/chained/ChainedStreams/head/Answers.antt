@@ -3,9 +3,8 @@ use Rattle.flute_streams.specs.Eithers.{held_either}
 use Rattle.flute_streams.proofs.streams.chained.ChainedStreams.head.Goals as goal
 
 pub head-requires-else-number-eq0 : goal.head-requires-else-number-eq0
-head-requires-else-number-eq0 g c =
-    far g.A.Stream.behaviour g.G.Streams.behaviour c.args.self.now.first.now
-    _ _ c.requires c.if-number-eq0.false
+head-requires-else-number-eq0 g c = far g.A.Stream.behaviour g.G.Streams.behaviour
+    c.args.self.now.first.now _ _ c.requires c.if-number-eq0.false
 
 pub returns-else-number-eq0 : goal.returns-else-number-eq0
 returns-else-number-eq0 g c = other_is g.A.Stream.behaviour g.G.Streams.behaviour

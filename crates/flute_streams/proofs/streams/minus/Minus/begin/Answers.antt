@@ -5,8 +5,7 @@ use Rattle.flute_streams.proofs.streams_lemmas.MinusFacts.{is_held, lets_go, let
 use Rattle.flute_streams.proofs.streams.minus.Minus.begin.Goals as goal
 
 pub returns-clause-walks : goal.returns-clause-walks
-returns-clause-walks g c =
-    lets_go g.S.Stream.behaviour g.T.Stream.behaviour c.if-not-self.false
+returns-clause-walks g c = lets_go g.S.Stream.behaviour g.T.Stream.behaviour c.if-not-self.false
     (is_held (sym (ap option_copied c.in-Some.is) ∙ c.address.ensures))
     c.in_ok-advance-3.ensures.goes_on refl c.if-not-self.false refl
 

@@ -14,8 +14,7 @@ returns-in_ok-advance-in-Second-clause-moves g c =
     (sym c.next_turn.ensures ∙ c.in-Second.is) c.in_ok-advance-in-Second.ensures.goes_on refl refl refl
 
 pub returns-in_err-advance-in-First-clause-stops : goal.returns-in_err-advance-in-First-clause-stops
-returns-in_err-advance-in-First-clause-stops g c =
-    told _ c.from_residual.result
-    (err_from_is_err_and c.from_residual.result c.from_residual.ensures.1)
-    (passes_first_not g.S.Stream.behaviour g.T.Stream.behaviour
-    (sym c.next_turn.ensures ∙ c.in-First.is) c.in_err-advance-in-First.ensures.stops refl refl)
+returns-in_err-advance-in-First-clause-stops g c = told _ c.from_residual.result
+    (err_from_is_err_and c.from_residual.result c.from_residual.ensures.1) (passes_first_not
+    g.S.Stream.behaviour g.T.Stream.behaviour (sym c.next_turn.ensures ∙ c.in-First.is)
+    c.in_err-advance-in-First.ensures.stops refl refl)
