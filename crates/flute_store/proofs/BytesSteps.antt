@@ -1,8 +1,7 @@
 -- The bytes that a walk gives are those of the object (specs/BytesLeft, specs/Extract).
-use Rattle.std.proofs.lemmas.Grind.{common_steps}
 use Rattle.std.proofs.Common.{rules}
 use Rattle.std.proofs.Common.{◌≡◌, ℕ, zero, suc, ◌+◌, ◌-◌, List, [], ◌∷◌, ◌++◌, length, take}
-use Rattle.std.proofs.Common.{Option, Some, None, refl, sym, ap, ◌∙◌, subst, arith, append_assoc}
+use Rattle.std.proofs.Common.{Option, Some, None, refl, sym, ap, ◌∙◌, arith, append_assoc}
 use Rattle.flute_store.proofs.Lookups.{Above, above-before, blocks_from-all, blocks_from-next}
 use Rattle.flute_store.proofs.Lookups.{blocks_from-end, Entry, value-past, value-here}
 use Rattle.std.{specs.Io.KnownBytes.{Appends}, proofs.KnownBytes.{Appends-trans}}
@@ -11,7 +10,7 @@ use Rattle.flute_join.proofs.Public.{not_cons_nil}
 use Rattle.flute_parts.specs.{Devices.{AppendsPart}, SymbolBytes.{HasSymbolSize}}
 use Rattle.flute_parts.proofs.Public.{AppendsPart-first, AppendsPart-second}
 use Rattle.flute_store.proofs.Runs.{runs-listed}
-use Rattle.flute_store.proofs.ToldObjects.{ToldGaps, wants-told, told-information}
+use Rattle.flute_store.proofs.ToldObjects.{ToldGaps, wants-told}
 use Rattle.flute_store.proofs.{WholeObjects.{gapless-whole}, ObjectLength.{object-length}}
 use Rattle.flute_store.proofs.Upcoming.{here, AtHere, AtPassed, Tells, told, others_left}
 use Rattle.flute_store.proofs.Upcoming.{symbols-first, symbols-end, others-above, inside-less}
@@ -19,10 +18,10 @@ use Rattle.flute_store.proofs.Upcoming.{block-left, taken, taken-left}
 use Rattle.flute_join.specs.declared.cell.Cell.TheVariants.{Conflict}
 use Rattle.flute_store.specs.{BytesLeft.{GivesBytes}, Wanted.{want_cell}}
 use Rattle.flute_store.proofs.Common
-use Common.{flat_map, value_at, Cell, One, Information, IsValid, symbol_id_cmp, ids, symbol_id, Key}
+use Common.{Cell, One, Information, IsValid, ids, symbol_id, Key}
 use Common.{SymbolId, Fact, Reason, Gap, Object, End, BlockEnd, Passed, Fitting, Wanted, HeldScan}
-use Common.{Turn, Whole, object, value_bytes, runs, gaps, listed, symbol_fact, IsTold, wanted}
-use Common.{blocks_from, Walk, at_start, left, pending, all_left, gaps_left, IsWalk, after_pass}
+use Common.{Turn, Whole, object, value_bytes, runs, gaps, symbol_fact, IsTold, wanted}
+use Common.{Walk, at_start, left, all_left, gaps_left, IsWalk, after_pass}
 use Common.{after_take, after_begin, upcoming_of, Keeps, walk_in, bound, IsHeldScan, Turns}
 use Common.{cell_bytes, found_bytes, held_bytes, bytes_left, KeepsBytes, IsNotWhole}
 use Common.{WritesWhole, WritesPart, info_address, Info, fact_at}
@@ -45,14 +44,14 @@ bytes-past e es (x ∷ xs) a =
 bytes-here : (e : Entry) (es : List Entry) (q : SymbolId) (xs : List SymbolId) → e.0 ≡ q
     → Above q xs → held_bytes (e ∷ es) (q ∷ xs) ≡ cell_bytes e.1 ++ held_bytes es xs
 unfolding held_bytes
-bytes-here e es q xs h a = search (rules, value-here, bytes-past)
+bytes-here = search (rules, value-here, bytes-past)
 
 -- passing a symbol and beginning a block leave the same bytes; taking a symbol gives its own
 pass-bytes : (w : Walk) → IsWalk w → AtPassed w → bytes_left (after_pass w) ≡ bytes_left w
 unfolding bytes_left
 pass-bytes w p t =
     let l = inside-less w p t.inside in
-    let a = above-before t.first.0 (here w) (others_left w) t.before (others-above w p l) in
+    let a = above-before _ (here w) _ t.before (others-above w p l) in
     rw (
       t.held,
       symbols-first w l,
@@ -62,55 +61,55 @@ pass-bytes w p t =
 
 begin-bytes : (w : Walk) → IsWalk w → Tells w BlockEnd → bytes_left (after_begin w) ≡ bytes_left w
 unfolding bytes_left
-begin-bytes w p t = search (rules, blocks_from-next, block-left, symbols-end)
+begin-bytes = search (rules, blocks_from-next, block-left, symbols-end)
 
 take-bytes : (w : Walk) → IsWalk w → (t : AtHere w None)
     → bytes_left w ≡ cell_bytes t.first.1 ++ bytes_left (after_take w)
 unfolding bytes_left
-take-bytes w p t = search (rules, inside-less, bytes-here, others-above, symbols-first)
+take-bytes = search (rules, inside-less, bytes-here, others-above, symbols-first)
 
 end-bytes : (w : Walk) → Tells w End → bytes_left w ≡ []
 unfolding bytes_left held_bytes
-end-bytes w t = search (rules, symbols-end, blocks_from-end)
+end-bytes = search (rules, symbols-end, blocks_from-end)
 
 -- where nothing is wanted, no gap is given, and no wanted symbol passed
 no-gap : (v : Walk) (g : Gap) (gs : List Gap) → all_left v ≡ [] → gaps_left v ≡ g ∷ gs → ⊥
 unfolding runs
-no-gap v g gs h e = search rules
+no-gap = search rules
 
 no-rest : (a b : List (SymbolId × Reason)) → a ++ b ≡ [] → b ≡ []
 no-rest [] b h = h
-no-rest (x ∷ a) b h = absurd (not_cons_nil x (a ++ b) h)
+no-rest (x ∷ a) b h = absurd (not_cons_nil x _ h)
 
 no-wanted : (v : Walk) (r : Reason) → IsWalk v → all_left v ≡ [] → upcoming_of v ≡ Wanted r → ⊥
-no-wanted v r p h e = not_cons_nil (here v, r) (left (taken None v))
-    (sym (taken-left None v (Some r) p (told v (Wanted r) e)) ∙ no-rest (pending v.run) (left v) h)
+no-wanted v r p h e = not_cons_nil (here v, r) (left (taken _ v))
+    (sym (taken-left None v (Some r) p (told v _ e)) ∙ no-rest _ _ h)
 
 -- what a turn gives if nothing is wanted
 pub no-bytes : (v w : HeldScan) (t : Option Turn) → IsHeldScan v → all_left (walk_in v) ≡ []
     → Turns v t w → GivesNone t → bytes_left (walk_in v) ≡ []
 no-bytes v w (Some (Turn.Gap g)) p h s n = search (rules, no-gap)
 no-bytes v w (Some Turn.Wanted) p h s n = search (rules, no-wanted)
-no-bytes v w (Some Turn.End) p h s n = end-bytes (walk_in v) (told (walk_in v) End s.turns.1)
+no-bytes v w (Some Turn.End) p h s n = end-bytes _ (told (walk_in v) End s.turns.1)
 no-bytes v w t p h s n = absurd n
 
 same-bytes : (v w : HeldScan) → Keeps (walk_in v) (walk_in w) → IsHeldScan w → bound w ≡ bound v
     → w.ticks ≡ v.ticks + 1 → all_left (walk_in v) ≡ []
     → bytes_left (walk_in w) ≡ bytes_left (walk_in v) → KeepsBytes v w
-same-bytes v w k p b t h e = search rules
+same-bytes = search rules
 
 pub pass-keeps : (v w : HeldScan) → IsHeldScan v → all_left (walk_in v) ≡ []
     → Turns v (Some Turn.Passed) w → KeepsBytes v w
 pass-keeps v w p h s = same-bytes v w s.turns.0 s.walk s.bound_is s.ticks h
-    (ap bytes_left s.turns.2 ∙ pass-bytes (walk_in v) p.walk (told (walk_in v) Passed s.turns.1))
+    (ap bytes_left s.turns.2 ∙ pass-bytes _ p.walk (told (walk_in v) Passed s.turns.1))
 
 pub begin-keeps : (v w : HeldScan) → IsHeldScan v → all_left (walk_in v) ≡ [] → Turns v None w
     → KeepsBytes v w
 begin-keeps v w p h s = same-bytes v w s.turns.0 s.walk s.bound_is s.ticks h
-    (ap bytes_left s.turns.2 ∙ begin-bytes (walk_in v) p.walk (told (walk_in v) BlockEnd s.turns.1))
+    (ap bytes_left s.turns.2 ∙ begin-bytes _ p.walk (told (walk_in v) BlockEnd s.turns.1))
 
 pub keeps-on : (u v w : HeldScan) → KeepsBytes u v → KeepsBytes v w → KeepsBytes u w
-keeps-on u v w k l = search rules
+keeps-on = search rules
 
 -- a fitting symbol has one value, which is given
 pub gives-first : (u v w : HeldScan) {e : Entry} {es : List Entry} (value : Option (Bor (List ℕ))) →
@@ -150,16 +149,16 @@ take-both (suc n) (x ∷ a) b = search (rules, take-both n a b)
 
 pub found-of : (key : Key) (id : SymbolId) (found : Option (Cell (List ℕ)))
     → value_bytes (symbol_fact key id found) ≡ found_bytes found
-found-of key id found = search rules
+found-of = search rules
 
 -- the bytes of an object are those of its held symbols
 pub object-told : {n : ℕ} (F : List Fact) (key : Key) (x : Object n) (info : Information) → IsTold F
     key x → object F key info ≡ take info.transfer_length (held_bytes x.symbols (ids info))
 unfolding object held_bytes
-object-told F key x info t = search rules
+object-told = search rules
 
 pub no-want : (ws : List (SymbolId × Reason)) → runs ws ≡ [] → ws ≡ []
-no-want ws e = sym (runs-listed ws) ∙ ap (flat_map listed) e
+no-want ws e = rw (← runs-listed ws, e)
 
 -- so far a prefix was written, and the rest is left
 pub record IsWriting (old now : Option (List ℕ)) (all rest : List ℕ) : Type 0 where
@@ -175,9 +174,7 @@ pub record Cuts (left x more : List ℕ) (n : ℕ) (b : List ℕ) : Type 0 where
 -- what comes after the first bytes that are written
 cut-left : (w : List ℕ) {all left x more b : List ℕ} {n : ℕ} → all ≡ w ++ take n left
     → Cuts left x more n b → all ≡ (w ++ b) ++ take (n - length b) more
-cut-left w {all} {left} {x} {more} {b} {n} h c = h ∙ ap (λ l. w ++ take n l) c.left_is ∙ ap
-    (λ l. w ++ l) (take-both n x more) ∙ ap (λ (y : List ℕ). w ++ (y ++ take (n - length y) more))
-    (sym c.bytes_are) ∙ sym (append_assoc w b (take (n - length b) more))
+cut-left w {all} {left} {x} {more} {b} {n} h c = rw (h, c.left_is, take-both n x more, ← c.bytes_are, ← append_assoc w b (take (n - length b) more))
 
 -- the first bytes of what is left are written
 pub writing-more : {old now new : Option (List ℕ)} {all left x more b : List ℕ} {n : ℕ}
@@ -185,34 +182,32 @@ pub writing-more : {old now new : Option (List ℕ)} {all left x more b : List �
     → IsWriting old new all (take (n - length b) more)
 writing-more {old} {now} {new} {all} {left} {x} {more} {b} w c a = record {
   part = w.part ++ b;
-  appended = Appends-trans old now new w.part b w.appended a;
-  whole = cut-left w.part w.whole c;
+  appended = Appends-trans _ _ _ _ b w.appended a;
+  whole = cut-left _ w.whole c;
 }
 
 -- or a part of them was written, and the sink failed
 pub writing-fails : {old now : Option (List ℕ)} (new : Option (List ℕ)) {all left x more b : List ℕ}
     {n : ℕ} → IsWriting old now all (take n left) → Cuts left x more n b → AppendsPart now new b
     → AppendsPart old new all
-writing-fails {old} {now} new {all} {left} {x} {more} {b} {n} w c a = subst (AppendsPart old new)
-    (sym (cut-left w.part w.whole c)) (AppendsPart-first old new (w.part ++ b)
-    (take (n - length b) more) (AppendsPart-second old now new w.part b w.appended a))
+writing-fails {old} {now} new {all} {left} {x} {more} {b} {n} w c a = rw (cut-left w.part w.whole c) (AppendsPart-first old new (w.part ++ b) (take (n - length b) more) (AppendsPart-second old now new w.part b w.appended a))
 
 -- ---- the whole object, from its held symbols
 
 pub left-start : (info : Information) (held : List Entry)
     → all_left (at_start info held) ≡ wanted info held (ids info)
 unfolding left
-left-start info held = ap (wanted info held) (blocks_from-all info)
+left-start info held = rw (blocks_from-all info)
 
 pub bytes-start : (info : Information) (held : List Entry)
     → bytes_left (at_start info held) ≡ held_bytes held (ids info)
 unfolding bytes_left
-bytes-start info held = ap (held_bytes held) (blocks_from-all info)
+bytes-start info held = rw (blocks_from-all info)
 
 pub none-wanted : (info : Information) {s held again : List Entry} {gs : List Gap}
     → gs ≡ runs (wanted info held (ids info)) → gs ≡ [] → held ≡ s → again ≡ s
     → wanted info again (ids info) ≡ []
-none-wanted info {s} {held} g n h a = search (rules, no-want)
+none-wanted = search (rules, no-want)
 
 module _ {n : ℕ} {F : List Fact} {key : Key} {x : Object n} {info : Information} {held : List Entry}
     {gs : List Gap} (t : ToldGaps F key x info held gs) where
@@ -220,24 +215,20 @@ module _ {n : ℕ} {F : List Fact} {key : Key} {x : Object n} {info : Informatio
   information = search rules
 
   are_gaps : gaps F key info ≡ gs
-  are_gaps = ap runs (wants-told F key x info t.told ∙ ap
-      (λ (s : List Entry). wanted info s (ids info)) (sym t.held_is)) ∙ sym t.gaps_are
+  are_gaps = rw (wants-told F key x info t.told ∙ ap (λ (s : List Entry). wanted info s (ids info)) (sym t.held_is), ← t.gaps_are)
 
   -- an object with a gap is not whole, and one without is
   pub not-whole : (gap : Gap) (others : List Gap) → gs ≡ gap ∷ others
       → IsNotWhole F key (symbol_id gap.sbn gap.first)
-  not-whole gap others f = search (rules, information, are_gaps)
+  not-whole = search (rules, information, are_gaps)
 
   pub whole-object : gs ≡ [] → Whole F key info
-  whole-object f = gapless-whole F key info information (are_gaps ∙ f)
+  whole-object f = gapless-whole F _ _ information (are_gaps ∙ f)
 
   -- the bytes that a walk from the start gives are those of the object
   told-bytes : {walk : Walk} {length : ℕ} (again : List Entry) → again ≡ x.symbols → walk ≡ at_start
       info again → length ≡ info.transfer_length → take length (bytes_left walk) ≡ object F key info
-  told-bytes {walk} {length} again a start l = ap (λ n. take n (bytes_left walk)) l ∙ ap
-      (take info.transfer_length) (ap bytes_left start ∙ bytes-start info again) ∙ ap
-      (λ (s : List Entry). take info.transfer_length (held_bytes s (ids info))) a ∙ sym
-      (object-told F key x info t.told)
+  told-bytes {walk} {length} again a start l = rw (l, ap bytes_left start ∙ bytes-start info again, a, ← object-told F key x info t.told)
 
   -- what is written by it: the whole object, or a prefix of it
   module _ {W : Type 0} {written : W → Option (List ℕ)} {old new : W} {walk : Walk}
@@ -248,11 +239,11 @@ module _ {n : ℕ} {F : List Fact} {key : Key} {x : Object n} {info : Informatio
     writes-whole w v = record {
       info = info;
       whole = whole-object f;
-      bytes = subst (Appends (written old) (written new)) (told-bytes again a start l) w;
+      bytes = rw (← (told-bytes again a start l)) w;
       length_is = l;
-      exact = object-length F key info v (whole-object f) ∙ sym l;
+      exact = object-length F _ _ v (whole-object f) ∙ sym l;
     }
 
     pub writes-part : AppendsPart (written old) (written new) (take length (bytes_left walk))
         → WritesPart written F key old new
-    writes-part w = search (rules, whole-object, told-bytes)
+    writes-part = search (rules, whole-object, told-bytes)

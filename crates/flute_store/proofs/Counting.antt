@@ -1,32 +1,32 @@
 -- How many sessions, objects and symbols the content of a store names (specs/Content).
 use Rattle.std.proofs.Common.{rules}
 use Rattle.std.proofs.Common.{append-nil, ◌≡◌, ◌≢◌, ℕ, ◌≤◌, List, [], ◌∷◌, ◌++◌, length, Bool, true}
-use Rattle.std.proofs.Common.{Option, Some, None, refl, sym, ap, ◌∙◌, subst, inl, inr, arith}
+use Rattle.std.proofs.Common.{Option, Some, None, refl, sym, ap, ◌∙◌, subst, arith}
 use Rattle.flute_store.proofs.FactEntries.{session_keys, object_keys, symbol_keys, at-entries}
 use Rattle.flute_store.proofs.StoreJoin.{OrderedObject, OrderedSession, OrderedStore, ordered-store}
-use Rattle.flute_store.proofs.StoreJoin.{in_session, in_store, entry_facts, symbols_apart}
+use Rattle.flute_store.proofs.StoreJoin.{in_store, symbols_apart}
 use Rattle.flute_store.proofs.StoreJoin.{objects_apart, sessions_apart, object-symbol, object-info}
-use Rattle.flute_parts.proofs.Public.{object_of-some, symbol_of-some}
+use Rattle.flute_parts.proofs.Public.{object_of-some}
 use Rattle.flute_store.proofs.Common
 use Common.{Ordering, is_eq, option_map_or, keys_of, length-keys_of, none-some, same_Some, Session}
 use Common.{ObjectName, Key, SymbolId, Address, Fact, session_cmp, object_cmp, symbol_id_cmp}
 use Common.{same_symbol_id, same_session, same_object, symbol_address, address, fact_at, firsts}
 use Common.{named, session_of, object_of, symbol_of, sessions, objects, symbols, Over}
-use Common.{more_sessions, more_objects, more_symbols, Tells, has, has-firsts, Distinct}
+use Common.{Tells, has, has-firsts, Distinct}
 use Common.{Distinct-firsts, length-Distinct, Member, fact_at-member_some, named-member}
 use Common.{named-names, session_tells, object_tells, symbol_id_tells, value_at, each-value_at}
 use Common.{Object, key_in, symbol_cell_facts, object_facts, session_facts, content, IsObject}
-use Common.{IsSession, IsStore, fact_at-some_named, Part, InfoPart, SymbolPart, info_address, Cell}
+use Common.{IsSession, IsStore, fact_at-some_named, Part, SymbolPart, info_address, Cell}
 use Common.{info_cell_facts}
 
 -- ---- what is looked up
 
 pub some-value : {X : Type 0} (o : Option X) → o ≢ None → (v : X) × (o ≡ Some v)
-some-value x0 x1 = search rules
+some-value = search rules
 
 pub a_fact : (F : List Fact) (a : Address) → fact_at F a ≢ None
     → (f : Fact) × Member f F × (address f ≡ a)
-a_fact F a h = search (rules, fact_at-some_named)
+a_fact = search (rules, fact_at-some_named)
 
 module _ {K X : Type 0} (cmp : K → K → Ordering) (t : Tells (λ a b. is_eq (cmp a b))) where
   abbrev is_key : K → List (K × X) → Bool
@@ -44,10 +44,9 @@ module _ {X : Type 0} (same : X → X → Bool) (t : Tells same) (part : Address
   pub count-Below : (ks : List X)
       → ((x : X) (a : Address) → fact_at F a ≢ None → part a ≡ Some x → has same t x ks ≡ true)
       → length (firsts same (named part F)) ≤ length ks
-  count-Below ks h = length-Distinct same t (firsts same (named part F)) ks
-      (Distinct-firsts same t (named part F)) (λ x k. let n = named-names same t part F x
-      (sym (has-firsts same t x (named part F)) ∙ k) in h x (address n.0)
-      (fact_at-member_some n.0 F n.1) n.2)
+  count-Below ks h = length-Distinct _ t _ _ (Distinct-firsts _ t _) (λ x k. let n = named-names _ t
+      part F x (sym (has-firsts _ t x _) ∙ k) in h x (address n.0) (fact_at-member_some n.0 F n.1)
+      n.2)
 
   none-named : ((x : X) (a : Address) → part a ≡ Some x → fact_at F a ≡ None)
       → length (firsts same (named part F)) ≤ 0
@@ -57,10 +56,9 @@ module _ {X : Type 0} (same : X → X → Bool) (t : Tells same) (part : Address
   pub count-ge : (ks : List X) → Distinct same t ks →
       ((x : X) → has same t x ks ≡ true → (a : Address) × (fact_at F a ≢ None) × (part a ≡ Some x))
       → length ks ≤ length (firsts same (named part F))
-  count-ge ks d h = length-Distinct same t ks (firsts same (named part F)) d (λ x k. let n = h x k
-      in
+  count-ge ks d h = length-Distinct _ t _ _ d (λ x k. let n = h x k in
       let f = a_fact F n.0 n.1 in
-      has-firsts same t x (named part F) ∙ named-member same t part f.0 F x f.1 (ap part f.2 ∙ n.2))
+      has-firsts _ t x _ ∙ named-member _ t part f.0 F x f.1 (ap part f.2 ∙ n.2))
 
 -- ---- what addresses name
 
@@ -85,15 +83,14 @@ module _ {n : ℕ} where
       → fact_at (object_facts key x) (symbol_address key id)
       ≡ option_map_or (λ c. fact_at (symbol_cell_facts key id c) (symbol_address key id))
       (value_at symbol_id_cmp x.symbols id) None
-  at-object x key id p = search (rules, object-symbol, at-entries, symbol_keys, symbols_apart) steps
-      300000
+  at-object = search (rules, object-symbol, at-entries, symbol_keys, symbols_apart) steps 300000
 
   -- the content has no value at an address of a session that is not held; at an address of a held
   -- object it has the object's value
   module _ {m : List (Session × List (ObjectName × Object n))} (q : OrderedStore m) where
     pub at-unheard : (a : Address) → value_at session_cmp m a.key.session ≡ None
         → fact_at (content m) a ≡ None
-    at-unheard a f = search (rules, at-content)
+    at-unheard = search (rules, at-content)
 
     module _ (key : Key) {os : List (ObjectName × Object n)}
         (f : value_at session_cmp m key.session ≡ Some os) where
@@ -102,23 +99,20 @@ module _ {n : ℕ} where
           (λ x. fact_at (object_facts key x) (record { key = key; part = part })) found None
       at-found part found h =
           let a : Address = record { key = key; part = part } in
-          at-content m a q
-          ∙ ap (λ z. option_map_or (λ os. fact_at (session_facts key.session os) a) z None) f
-          ∙ at-session os a (each-value_at session_cmp OrderedSession m key.session os q.each f)
-          ∙ ap (λ z. option_map_or (λ x. fact_at (object_facts key x) a) z None) h
+          rw (at-content m a q, f, at-session os a (each-value_at session_cmp OrderedSession m key.session os q.each f), h)
 
       module _ {x : Object n} (h : value_at object_cmp os key.object ≡ Some x) where
         pub at-info : fact_at (content m) (info_address key)
             ≡ fact_at (info_cell_facts key x.info) (info_address key)
-        at-info = at-found InfoPart (Some x) h ∙ object-info key x
+        at-info = at-found _ _ h ∙ object-info _ x
 
         pub at-symbol : (id : SymbolId) (found : Option (Cell (List ℕ))) → value_at symbol_id_cmp
             x.symbols id ≡ found → fact_at (content m) (symbol_address key id) ≡ option_map_or
             (λ c. fact_at (symbol_cell_facts key id c) (symbol_address key id)) found None
         at-symbol id found g =
-            let session = each-value_at session_cmp OrderedSession m key.session os q.each f in
-            at-found (SymbolPart id) (Some x) h
-            ∙ at-object x key id (each-value_at object_cmp OrderedObject os key.object x
+            let session = each-value_at session_cmp OrderedSession m key.session _ q.each f in
+            at-found _ _ h
+            ∙ at-object x _ _ (each-value_at object_cmp OrderedObject os key.object x
             session.each h)
             ∙ ap (λ z. option_map_or (λ c. fact_at (symbol_cell_facts key id c)
             (symbol_address key id)) z None) g
@@ -127,10 +121,10 @@ module _ {n : ℕ} where
         pub symbols-held : length (symbols (content m) key) ≤ length x.symbols
         unfolding symbols
         symbols-held =
-            let c = count-Below same_symbol_id symbol_id_tells (symbol_of key) (content m)
-            (keys_of x.symbols) (λ id a k e. let found = some-value
+            let c = count-Below same_symbol_id symbol_id_tells (symbol_of _) (content m)
+            (keys_of _) (λ id a k e. let found = some-value
             (value_at symbol_id_cmp x.symbols id)
-            (λ z. k (ap (fact_at (content m)) (named_symbol key a id e) ∙ at-symbol id None z)) in
+            (λ z. k (ap (fact_at _) (named_symbol _ a _ e) ∙ at-symbol _ _ z)) in
             value_at-has symbol_id_cmp symbol_id_tells x.symbols id found.0 found.1) in omega
             (arith, c, length-keys_of x.symbols)
 
@@ -172,7 +166,7 @@ module _ {n : ℕ} where
         found → length (symbols (content m) key) ≤ n
     unfolding symbols
     few_in key os f sound None h =
-        let c = none-named same_symbol_id symbol_id_tells (symbol_of key) (content m) (λ x a e. ap
+        let c = none-named same_symbol_id symbol_id_tells (symbol_of _) (content m) (λ x a e. ap
         (fact_at (content m)) (named_symbol key a x e) ∙ at-found q key f (SymbolPart x) None h) in
         omega (arith, c)
     few_in key os f sound (Some v) h =
@@ -185,18 +179,16 @@ module _ {n : ℕ} where
         → value_at session_cmp m key.session ≡ found → length (symbols (content m) key) ≤ n
     unfolding symbols
     few_symbols_of key None f =
-        let c = none-named same_symbol_id symbol_id_tells (symbol_of key) (content m) (λ x a e. ap
-        (fact_at (content m)) (named_symbol key a x e) ∙ at-unheard q (symbol_address key x) f) in
+        let c = none-named same_symbol_id symbol_id_tells (symbol_of _) (content m) (λ x a e. ap
+        (fact_at (content m)) (named_symbol key a x e) ∙ at-unheard q (symbol_address _ x) f) in
         omega (arith, c)
-    few_symbols_of key (Some os) f =
-        few_in key os f (each-value_at session_cmp (IsSession o) m key.session os p.each f)
-        (value_at object_cmp os key.object) refl
+    few_symbols_of key (Some os) f = few_in _ _ f
+        (each-value_at session_cmp (IsSession o) m key.session _ p.each f) _ refl
 
     pub not_over : Over (content m) s o n → ⊥
-    not_over x0 = search (rules, few_sessions, few_objects_of, value_at, few_symbols_of) steps
-        300000
+    not_over = search (rules, few_sessions, few_objects_of, value_at, few_symbols_of) steps 300000
 
     -- nor does it with an empty list appended
     pub not_over_more : (G : List Fact) → G ≡ [] → Over (content m ++ G) s o n → ⊥
     not_over_more G e over = not_over
-        (subst (λ H. Over H s o n) (ap (λ H. content m ++ H) e ∙ append-nil (content m)) over)
+        (rw (← (ap (λ H. content m ++ H) e ∙ append-nil (content m))) over)

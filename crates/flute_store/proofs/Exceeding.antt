@@ -1,27 +1,25 @@
 -- A store beyond the limits names more sessions, objects or symbols than they allow (specs/Beyond).
-use Rattle.std.proofs.lemmas.Grind.{common_steps}
 use Rattle.std.proofs.Common.{rules}
 use Rattle.std.proofs.Common.{◌≡◌, ◌≢◌, ℕ, ◌<◌, ◌≤◌, List, [], ◌∷◌, ◌++◌, length, true, false, cond}
-use Rattle.std.proofs.Common.{◌||◌, Option, Some, None, refl, sym, ap, ◌∙◌, subst, inl, inr, ◌⊎◌}
-use Rattle.std.proofs.Common.{arith, bytes_eq}
+use Rattle.std.proofs.Common.{Option, Some, None, refl, sym, ap, ◌∙◌, subst, inl, inr, ◌⊎◌}
+use Rattle.std.proofs.Common.{arith}
 use Rattle.flute_store.proofs.FactEntries.{AreMaps, at-one_here}
 use Rattle.flute_store.proofs.OnePair.{symbols_joined, objects_joined, any-value_at, absent-right}
 use Rattle.flute_store.proofs.OnePair.{some-right, known-join}
-use Rattle.flute_store.proofs.StoreJoin.{one_object, told-ordered, EachValue-weaker, OrderedObject}
+use Rattle.flute_store.proofs.StoreJoin.{one_object, EachValue-weaker}
 use Rattle.flute_store.proofs.StoreJoin.{OrderedSession, OrderedStore, content-join}
-use Rattle.flute_store.{proofs.OnePair.{known-update, update-some}}
 use Rattle.flute_store.proofs.Counting.{count-ge, at-info, at-symbol}
 use Rattle.flute_store.proofs.Common
-use Common.{Ordering, Less, is_eq, IsTotalOrder, keys_of, IsStrictlySortedBy, cell_join, IsKnown}
+use Common.{Ordering, Less, is_eq, IsTotalOrder, keys_of, IsStrictlySortedBy, IsKnown}
 use Common.{map_join, join_values, value_at, IsOrdered, EachValue, MapOver, ordered-map_join}
-use Common.{EachValue-map_join, Cell, Absent, One, Conflict, Session, ObjectName, Key, SymbolId}
+use Common.{EachValue-map_join, Cell, Absent, Session, ObjectName, Key, SymbolId}
 use Common.{session_cmp, object_cmp, symbol_id_cmp, same_symbol_id, same_session, same_object}
 use Common.{info_address, symbol_address, session_total, object_total, symbol_id_total, fact_at}
 use Common.{same_information, key_itself, session_itself, Over, more_sessions, more_objects}
 use Common.{more_symbols, session_of, object_of, symbol_of, sessions, objects, symbols, Information}
-use Common.{Part, InfoPart, SymbolPart, Info, InfoConflict, Symbol, SymbolConflict, cases_Bool}
+use Common.{Part, InfoPart, SymbolPart, cases_Bool}
 use Common.{false≢true, Tells, has, Distinct, session_tells, object_tells, symbol_id_tells}
-use Common.{tied_itself, AllByRecursion, length-keys_of, sorted_tail, none-some, each-value_at}
+use Common.{AllByRecursion, length-keys_of, sorted_tail, none-some, each-value_at}
 use Common.{value_at-map_join, absent_past, Object, Update, SymbolUpdate, object_join, ObjectOver}
 use Common.{session_join, store_join, key_in, info_cell_facts, symbol_cell_facts, content}
 use Common.{update_symbols, IsUpdate, IsObject, IsSession, IsStore, AnyValue, ObjectBeyond}
@@ -44,18 +42,18 @@ module _ {n : ℕ} where
     pub each : EachValue SolidSession m
 
   solid_object : (x : Object n) → IsObject x → SolidObject x
-  solid_object x p = search rules
+  solid_object = search rules
 
   solid_session : (o : ℕ) (os : List (ObjectName × Object n)) → IsSession o os → SolidSession os
-  solid_session o os p = search (rules, EachValue-weaker, solid_object)
+  solid_session = search (rules, EachValue-weaker, solid_object)
 
   pub solid-store : (s o : ℕ) (m : List (Session × List (ObjectName × Object n))) → IsStore s o m
       → SolidStore m
-  solid-store s o m p = search (rules, EachValue-weaker, solid_session)
+  solid-store = search (rules, EachValue-weaker, solid_session)
 
   -- joins of solid objects, sessions and stores are solid
   object-solid : (v w : Object n) → SolidObject v → SolidObject w → SolidObject (object_join v w)
-  object-solid v w p q = search (
+  object-solid = search (
     rules,
     ordered-map_join,
     EachValue-map_join,
@@ -69,25 +67,25 @@ module _ {n : ℕ} where
   session-solid : (v w : List (ObjectName × Object n)) → SolidSession v → SolidSession w
       → SolidSession (session_join v w)
   session-solid v w p q = record {
-    ordered = ordered-map_join object_total object_join v w p.ordered q.ordered;
-    each = EachValue-map_join object_cmp object_join SolidObject object-solid v w p.each q.each;
+    ordered = ordered-map_join object_total _ v w p.ordered q.ordered;
+    each = EachValue-map_join _ _ _ object-solid v w p.each q.each;
     some = some-right (objects_joined n) v w q.some;
   }
 
   pub solid-join : (v w : List (Session × List (ObjectName × Object n))) → SolidStore v
       → SolidStore w → SolidStore (store_join v w)
   solid-join v w p q = record {
-    ordered = ordered-map_join session_total session_join v w p.ordered q.ordered;
-    each = EachValue-map_join session_cmp session_join SolidSession session-solid v w p.each q.each;
+    ordered = ordered-map_join session_total _ v w p.ordered q.ordered;
+    each = EachValue-map_join _ _ _ session-solid v w p.each q.each;
   }
 
 told-known : (o : Option (SymbolId × SymbolUpdate)) → EachValue IsKnown (update_symbols o)
-told-known x0 = search rules
+told-known = search rules
 
 pub solid-one : (n : ℕ) (key : Key) (update : Update) → IsUpdate update
     → SolidStore (one_object n key update)
 unfolding IsStrictlySortedBy
-solid-one n key update h = search rules
+solid-one = search rules
 
 -- ---- looking up
 module _ {K : Type 0} (cmp : K → K → Ordering) (t : Tells (λ a b. is_eq (cmp a b))) where
@@ -100,12 +98,12 @@ module _ {K : Type 0} (cmp : K → K → Ordering) (t : Tells (λ a b. is_eq (cm
   pub distinct : (ks : List K) → IsStrictlySortedBy cmp ks → Distinct (λ a b. is_eq (cmp a b)) t ks
   unfolding IsStrictlySortedBy
   distinct [] s = tt
-  distinct (k ∷ ks) s = (not_below k ks s.0, distinct ks s.1)
+  distinct (k ∷ ks) s = (not_below k _ s.0, distinct ks s.1)
 
 module _ {K X : Type 0} {cmp : K → K → Ordering} (order : IsTotalOrder cmp)
     (t : Tells (λ a b. is_eq (cmp a b))) where
   pub first_value : (e : K × X) (es : List (K × X)) → value_at cmp (e ∷ es) e.0 ≡ Some e.1
-  first_value e es = search rules
+  first_value = search rules
 
   -- a key has a value just if it is among the keys
   pub has-value_at : (es : List (K × X)) (k : K) → has (λ a b. is_eq (cmp a b)) t k (keys_of es) ≡
@@ -125,29 +123,24 @@ module _ {K X : Type 0} {cmp : K → K → Ordering} (order : IsTotalOrder cmp)
   pub any-value : (B : X → Type 0) (es : List (K × X)) → IsOrdered cmp es → AnyValue B es
       → (k : K) × (v : X) × (value_at cmp es k ≡ Some v) × B v
   any-value B [] s a = absurd a
-  any-value B (e ∷ es) s (inl b) = (e.0, e.1, first_value e es, b)
-  any-value B (e ∷ es) s (inr a) = search (
-    rules,
-    sorted_tail,
-    later_value,
-    any-value B es
-        (sorted_tail cmp e.0 (keys_of es) s) a,
-  )
+  any-value B (e ∷ es) s (inl b) = (e.0, e.1, first_value e _, b)
+  any-value B (e ∷ es) s (inr a) = search
+      (rules, sorted_tail, later_value, any-value B es (sorted_tail cmp e.0 (keys_of es) s) a)
 
 -- ---- addresses that have a value
 pub info_stands : (key : Key) (c : Cell Information) → IsKnown c
     → fact_at (info_cell_facts key c) (info_address key) ≢ None
-info_stands x0 x1 x2 x3 = search (rules, none-some, at-one_here)
+info_stands = search (rules, none-some, at-one_here)
 
 cell_stands : (key : Key) (id : SymbolId) (c : Cell (List ℕ)) → IsKnown c
     → fact_at (symbol_cell_facts key id c) (symbol_address key id) ≢ None
-cell_stands x0 x1 x2 x3 x4 = search (rules, none-some, at-one_here)
+cell_stands = search (rules, none-some, at-one_here)
 
 known_or_absent : {T : Type 0} (c : Cell T) → (c ≡ Absent) ⊎ IsKnown c
-known_or_absent c = grind arith
+known_or_absent = grind arith
 
 ordered_session : {n : ℕ} (os : List (ObjectName × Object n)) → SolidSession os → OrderedSession os
-ordered_session os q = search (rules, EachValue-weaker)
+ordered_session = search (rules, EachValue-weaker)
 
 -- The content of a solid store names at least as many as its maps hold.
 module _ {n : ℕ} {m : List (Session × List (ObjectName × Object n))} (p : SolidStore m) where
@@ -157,7 +150,7 @@ module _ {n : ℕ} {m : List (Session × List (ObjectName × Object n))} (p : So
   module _ (s : Session) {os : List (ObjectName × Object n)}
       (f : value_at session_cmp m s ≡ Some os) where
     q : SolidSession os
-    q = each-value_at session_cmp SolidSession m s os p.each f
+    q = each-value_at session_cmp SolidSession m s _ p.each f
 
     module _ (o : ObjectName) {x : Object n} (h : value_at object_cmp os o ≡ Some x) where
       r : SolidObject x
@@ -167,7 +160,7 @@ module _ {n : ℕ} {m : List (Session × List (ObjectName × Object n))} (p : So
           ≡ Some c → IsKnown c → fact_at (content m) (symbol_address (key_in s o) id) ≢ None
       symbol_stands id {c} g k e =
           let key = key_in s o in
-          cell_stands key id c k (sym (at-symbol ordered_store key f h id (Some c) g) ∙ e)
+          cell_stands key id c k (sym (at-symbol ordered_store _ f h _ _ g) ∙ e)
 
       first_stands : (es : List (SymbolId × Cell (List ℕ))) → es ≡ x.symbols → es ≢ []
           → (part : Part) × (fact_at (content m) (record { key = key_in s o; part = part }) ≢ None)
@@ -183,11 +176,11 @@ module _ {n : ℕ} {m : List (Session × List (ObjectName × Object n))} (p : So
       pub object_stands : (part : Part) ×
           (fact_at (content m) (record { key = key_in s o; part = part }) ≢ None)
       object_stands = elim (known_or_absent x.info) [
-        | inl e ↦ first_stands x.symbols refl (r.some e)
+        | inl e ↦ first_stands _ refl (r.some e)
         | inr k ↦ (
           InfoPart,
-          λ e. info_stands (key_in s o) x.info k
-              (sym (at-info ordered_store (key_in s o) f h) ∙ e),
+          λ e. info_stands (key_in s o) _ k
+              (sym (at-info ordered_store _ f h) ∙ e),
         )
       ]
 
@@ -195,17 +188,15 @@ module _ {n : ℕ} {m : List (Session × List (ObjectName × Object n))} (p : So
       unfolding symbols
       symbols_named =
           let key = key_in s o in
-          let c =
-          count-ge same_symbol_id symbol_id_tells (symbol_of key) (content m)
-          (keys_of x.symbols) (distinct symbol_id_cmp symbol_id_tells (keys_of x.symbols)
-          r.ordered) (λ id k.
-          let found = has-value_at symbol_id_total symbol_id_tells x.symbols id k in
+          let c = count-ge same_symbol_id symbol_id_tells (symbol_of _) (content m) (keys_of _)
+          (distinct _ symbol_id_tells _ r.ordered) (λ id k. let found = has-value_at symbol_id_total
+          symbol_id_tells x.symbols id k in
           let known = each-value_at symbol_id_cmp IsKnown x.symbols id found.0 r.each found.1 in (
             symbol_address key id,
             symbol_stands id found.1 known,
-            ap (λ b. cond b (Some id) None) (key_itself key),
-          )) in
-          omega (arith, c, length-keys_of x.symbols)
+            ap (λ b. cond b (Some id) None)
+                (key_itself key),
+          )) in omega (arith, c, length-keys_of x.symbols)
 
     -- a session with an object has an address with a value
     pub first_object : (es : List (ObjectName × Object n)) → es ≡ os → es ≢ [] → (key : Key) ×
@@ -213,16 +204,16 @@ module _ {n : ℕ} {m : List (Session × List (ObjectName × Object n))} (p : So
         (fact_at (content m) (record { key = key; part = part }) ≢ None)
     first_object [] e h = absurd (h refl)
     first_object (d ∷ es) e h =
-        let stands = object_stands d.0 (subst (λ l. value_at object_cmp l d.0 ≡ Some d.1) e
-        (first_value object_total object_tells d es)) in (key_in s d.0, stands.0, refl, stands.1)
+        let stands = object_stands _ (subst (λ l. value_at object_cmp l d.0 ≡ Some d.1) e
+        (first_value object_total object_tells d es)) in (key_in s _, stands.0, refl, stands.1)
 
     -- there are at least as many object names as held objects
     objects_named : length os ≤ length (objects (content m) s)
     unfolding objects
     objects_named =
-        let c = count-ge same_object object_tells (object_of s) (content m) (keys_of os)
-        (distinct object_cmp object_tells (keys_of os) q.ordered) (λ k h. let found = has-value_at
-        object_total object_tells os k h in
+        let c = count-ge same_object object_tells (object_of s) (content m) (keys_of _)
+        (distinct _ object_tells _ q.ordered) (λ k h. let found = has-value_at object_total
+        object_tells os k h in
         let stands = object_stands k found.1 in (
           record { key = key_in s k; part = stands.0 },
           stands.1,
@@ -268,28 +259,26 @@ module _ {K X : Type 0} {cmp : K → K → Ordering} (order : IsTotalOrder cmp) 
       es fs → (limit < length (map_join cmp join es fs)) ⊎ AnyValue B (map_join cmp join es fs)
   map_over-beyond m (inl l) = inl l
   map_over-beyond {es} {fs} m (inr (q, v, w, f, g, o)) =
-      inr (any-value_at cmp B (map_join cmp join es fs) q (join v w)
-      (value_at-map_join order join es fs q m.first m.second ∙ (λ i. join_values join (f i) (g i)))
+      inr (any-value_at cmp B _ q (join v w)
+      (value_at-map_join order _ _ _ q m.first m.second ∙ (λ i. join_values join (f i) (g i)))
       (beyond v w (each-value_at cmp P es q v m.first_each f)
       (each-value_at cmp P fs q w m.second_each g) o))
 
 module _ {n : ℕ} where
   object_over : (v w : Object n) → SolidObject v → SolidObject w → ObjectOver v w
       → ObjectBeyond (object_join v w)
-  object_over x0 x1 x2 x3 x4 = search rules
+  object_over = search rules
 
   session_over : (o : ℕ) (v w : List (ObjectName × Object n)) → SolidSession v → SolidSession w
       → MapOver object_cmp object_join o ObjectOver v w → SessionBeyond o (session_join v w)
-  session_over o v w p q h = map_over-beyond object_total object_join o ObjectOver ObjectBeyond
-      object_over
+  session_over o v w p q h = map_over-beyond object_total _ o _ _ object_over
       (record { first = p.ordered; second = q.ordered; first_each = p.each; second_each = q.each })
       h
 
   pub over-beyond : (s o : ℕ) (v w : List (Session × List (ObjectName × Object n))) → SolidStore v →
       SolidStore w → MapOver session_cmp session_join s
       (MapOver object_cmp object_join o ObjectOver) v w → StoreBeyond s o (store_join v w)
-  over-beyond s o v w p q h = map_over-beyond session_total session_join s
-      (MapOver object_cmp object_join o ObjectOver) (SessionBeyond o) (session_over o)
+  over-beyond s o v w p q h = map_over-beyond session_total _ s _ _ (session_over o)
       (record { first = p.ordered; second = q.ordered; first_each = p.each; second_each = q.each })
       h
 

@@ -23,18 +23,18 @@ is_known _ = true
 
 info-held : (key : Key) (c : Cell Information)
     → is_some (fact_at (info_cell_facts key c) (info_address key)) ≡ is_known c
-info-held key Absent = ap is_some (fact_at-nil (info_address key))
-info-held key (One i) = ap is_some (at-one_here (Info key i))
-info-held key Conflict = ap is_some (at-one_here (InfoConflict key))
+info-held key Absent = rw (fact_at-nil (info_address key))
+info-held key (One i) = rw (at-one_here (Info key i))
+info-held key Conflict = rw (at-one_here (InfoConflict key))
 
 symbol-held : (key : Key) (id : SymbolId) (c : Cell (List ℕ))
     → is_some (fact_at (symbol_cell_facts key id c) (symbol_address key id)) ≡ is_known c
-symbol-held key id Absent = ap is_some (fact_at-nil (symbol_address key id))
-symbol-held key id (One b) = ap is_some (at-one_here (Symbol key id b))
-symbol-held key id Conflict = ap is_some (at-one_here (SymbolConflict key id))
+symbol-held key id Absent = rw (fact_at-nil (symbol_address key id))
+symbol-held key id (One b) = rw (at-one_here (Symbol key id b))
+symbol-held key id Conflict = rw (at-one_here (SymbolConflict key id))
 
 pub known-is : {T : Type 0} (c : Cell T) → IsKnown c → is_known c ≡ true
-known-is c h = grind arith
+known-is = grind arith
 
 module _ {n s o : ℕ} {m : List (Session × List (ObjectName × Object n))} (p : IsStore s o m) where
   in_order : OrderedStore m
@@ -42,7 +42,7 @@ module _ {n s o : ℕ} {m : List (Session × List (ObjectName × Object n))} (p 
 
   pub no_session : (a : Address) → value_at session_cmp m a.key.session ≡ None
       → is_some (fact_at (content m) a) ≡ false
-  no_session a f = ap is_some (at-unheard in_order a f)
+  no_session a f = rw (at-unheard in_order a f)
 
   of_symbol : (key : Key) (id : SymbolId) (x : Object n) (found : Option (Cell (List ℕ)))
       → EachValue IsKnown x.symbols → value_at symbol_id_cmp x.symbols id ≡ found
@@ -50,17 +50,17 @@ module _ {n s o : ℕ} {m : List (Session × List (ObjectName × Object n))} (p 
       found None) ≡ is_some found
   of_symbol key id x None a f = refl
   of_symbol key id x (Some c) a f =
-      symbol-held key id c ∙ known-is c (each-value_at symbol_id_cmp IsKnown x.symbols id c a f)
+      symbol-held _ _ c ∙ known-is c (each-value_at symbol_id_cmp _ _ id c a f)
 
   module _ {os : List (ObjectName × Object n)} where
     pub no_object : (a : Address) → value_at session_cmp m a.key.session ≡ Some os
         → value_at object_cmp os a.key.object ≡ None → is_some (fact_at (content m) a) ≡ false
-    no_object a f h = ap is_some (at-found in_order a.key f a.part None h)
+    no_object a f h = rw (at-found in_order a.key f a.part None h)
 
     pub of_info : (key : Key) {x : Object n} → value_at session_cmp m key.session ≡ Some os
         → value_at object_cmp os key.object ≡ Some x
         → is_some (fact_at (content m) (info_address key)) ≡ is_known x.info
-    of_info key {x} f h = ap is_some (at-info in_order key f h) ∙ info-held key x.info
+    of_info key {x} f h = rw (at-info in_order key f h, info-held key x.info)
 
     pub of_symbols : (key : Key) (id : SymbolId) {x : Object n}
         → value_at session_cmp m key.session ≡ Some os → value_at object_cmp os key.object ≡ Some x
@@ -70,14 +70,14 @@ module _ {n s o : ℕ} {m : List (Session × List (ObjectName × Object n))} (p 
         let sound = each-value_at object_cmp IsObject os key.object x
         (each-value_at session_cmp (IsSession o) m key.session os p.each f).each h in ap is_some
         (at-symbol in_order key f h id (value_at symbol_id_cmp x.symbols id) refl) ∙ of_symbol key
-        id x (value_at symbol_id_cmp x.symbols id) sound.symbols_are.each refl
+        _ x _ sound.symbols_are.each refl
 
   -- if an address has a value, its session and its object are held
   pub object_held : (key : Key) → HoldsObject (content m) key → (os : List (ObjectName × Object n))
       × (x : Object n) × (value_at session_cmp m key.session ≡ Some os) ×
       (value_at object_cmp os key.object ≡ Some x)
   object_held key (part, h) =
-      let session = some-value (value_at session_cmp m key.session)
+      let session = some-value _
       (λ z. h (at-unheard in_order (record { key = key; part = part }) z)) in
       let object = some-value (value_at object_cmp session.0 key.object)
       (λ z. h (at-found in_order key session.1 part None z)) in
@@ -94,45 +94,44 @@ module _ {n s o : ℕ} {m : List (Session × List (ObjectName × Object n))} (p 
 
   held_info : (key : Key) → HoldsObject (content m) key → (info : Cell Information)
       → IsHeldSession m key (record { info = info; symbol = None })
-  held_info key h info = let r = object_held key h in (r.0, r.2, (r.1, r.3, tt))
+  held_info key h info = let r = object_held _ h in (r.0, r.2, (r.1, r.3, tt))
 
   of_told : (key : Key) (id : SymbolId) (told : SymbolUpdate) (F : List Fact) → AllByRecursion
       (HasCell (content m)) (F ++ symbols_facts key (update_symbols (Some (id, told)))) → fact_at
       (content m) (symbol_address key id) ≢ None
   of_told key id (BytesUpdate bytes) [] h = h.0
   of_told key id ConflictUpdate [] h = h.0
-  of_told key id told (f ∷ F) h = of_told key id told F h.1
+  of_told key id told (f ∷ F) h = of_told _ _ told F h.1
 
   -- if each fact of an update has a cell, its session, its object and its symbol are held
   pub news_held : (key : Key) (info : Cell Information) (symbol : Option (SymbolId × SymbolUpdate))
       → (info ≡ Absent → symbol ≢ None) → AllByRecursion (HasCell (content m))
       (update_facts key (record { info = info; symbol = symbol })) → IsHeldSession m key
       (record { info = info; symbol = symbol })
-  news_held key info (Some (id, told)) some h =
-      held_symbol key id told (of_told key id told (info_cell_facts key info) h) info
+  news_held key info (Some (id, told)) some h = held_symbol _ _ told (of_told _ _ _ _ h) info
   news_held key Absent None some h = absurd (some refl refl)
-  news_held key (One i) None some h = held_info key h.0 (One i)
-  news_held key Conflict None some h = held_info key h.0 Conflict
+  news_held key (One i) None some h = held_info _ h.0 (One i)
+  news_held key Conflict None some h = held_info _ h.0 Conflict
 
 -- ---- what the content of a store says of an object
 
 info-cell : (key : Key) (c : Cell Information)
     → fact_at (info_cell_facts key c) (info_address key) ≡ cell_fact (Info key) (InfoConflict key) c
-info-cell key Absent = fact_at-nil (info_address key)
-info-cell key (One i) = at-one_here (Info key i)
-info-cell key Conflict = at-one_here (InfoConflict key)
+info-cell key Absent = fact_at-nil _
+info-cell key (One i) = at-one_here _
+info-cell key Conflict = at-one_here _
 
 symbol-cell : (key : Key) (id : SymbolId) (found : Option (Cell (List ℕ)))
     → option_map_or (λ c. fact_at (symbol_cell_facts key id c) (symbol_address key id)) found None
     ≡ symbol_fact key id found
 symbol-cell key id None = refl
-symbol-cell key id (Some Absent) = fact_at-nil (symbol_address key id)
-symbol-cell key id (Some (One b)) = at-one_here (Symbol key id b)
-symbol-cell key id (Some Conflict) = at-one_here (SymbolConflict key id)
+symbol-cell key id (Some Absent) = fact_at-nil _
+symbol-cell key id (Some (One b)) = at-one_here _
+symbol-cell key id (Some Conflict) = at-one_here _
 
 pub known-fact : (key : Key) (id : SymbolId) (c : Cell (List ℕ)) → IsKnown c
     → symbol_fact key id (Some c) ≢ None
-known-fact key id c k e = grind arith
+known-fact = grind arith
 
 module _ {n s o : ℕ} {m : List (Session × List (ObjectName × Object n))} (p : IsStore s o m)
     (key : Key) where

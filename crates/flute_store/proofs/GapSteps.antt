@@ -1,24 +1,23 @@
 -- The gaps that a walk gives are the runs of what is wanted (specs/GapsLeft).
-use Rattle.std.proofs.lemmas.Grind.{common_steps}
 use Rattle.std.proofs.Common.{rules}
-use Rattle.std.proofs.Common.{◌≡◌, ◌≢◌, ℕ, zero, suc, ◌+◌, ◌-◌, ◌<◌, ◌≤◌, false, cond, ◌&&◌, List}
+use Rattle.std.proofs.Common.{◌≡◌, ◌≢◌, ℕ, zero, suc, ◌+◌, ◌-◌, ◌<◌, ◌≤◌, false, ◌&&◌, List}
 use Rattle.std.proofs.Common.{[], ◌∷◌, ◌++◌, map, Option, Some, None, refl, sym, ap, ◌∙◌, subst}
 use Rattle.std.proofs.Common.{inl, inr, ◌⊎◌, arith, append_assoc}
-use Rattle.flute_store.proofs.Lookups.{Above, sbn-less, esi-less, above-before, above-later}
+use Rattle.flute_store.proofs.Lookups.{Above, sbn-less, above-before, above-later}
 use Rattle.flute_store.proofs.Lookups.{above-block, blocks_from-end, Entry, Elsewhere, value-before}
 use Rattle.flute_store.proofs.Lookups.{value-here, wanted-missing, elsewhere-above, elsewhere-here}
 use Rattle.std.proofs.Math.Nat.{zero-add, add-zero, suc-add}
 use Rattle.std.{proofs.lemmas.List.FromFn.{map-range_with_len_more}, specs.Prelude.{nat_lt}}
-use Rattle.flute_store.proofs.Runs.{runs-first, reason_same, reason_itself}
+use Rattle.flute_store.proofs.Runs.{runs-first, reason_same}
 use Rattle.flute_store.proofs.Upcoming.{here, AtHere, FirstAfter, Tells, told, others_left}
 use Rattle.flute_store.proofs.Upcoming.{symbols-first, symbols-end, blocks-later, others-above}
-use Rattle.flute_store.proofs.Upcoming.{inside-less, sorted-first, taken, taken-left, taken-keeps}
+use Rattle.flute_store.proofs.Upcoming.{inside-less, sorted-first, taken-left, taken-keeps}
 use Rattle.flute_store.proofs.Common
-use Common.{◌==◌, range_with_len, keys_of, Less, Greater, ordering_reverse, cases_Bool, eqb-true}
-use Common.{ltb-true, nat_tests, same_Some, none-some, IsKnown, IsOrdered, EachValue, value_at}
-use Common.{Cell, Information, symbol_id_cmp, both, symbol_id_total, symbol_id, SymbolId, Reason}
+use Common.{◌==◌, range_with_len, keys_of, Less, Greater, cases_Bool}
+use Common.{nat_tests, same_Some, IsKnown, IsOrdered, EachValue, value_at}
+use Common.{Cell, Information, symbol_id_cmp, symbol_id, SymbolId, Reason}
 use Common.{Missing, Gap, Upcoming, End, BlockEnd, Passed, Fitting, Wanted, NotHeld, runs}
-use Common.{same_reason, want_cell, wanted, block_from, blocks_from, Walk, left, pending, gaps_left}
+use Common.{want_cell, wanted, block_from, blocks_from, Walk, left, pending, gaps_left}
 use Common.{IsBehind, EndsBefore, IsWalk, after_take, after_want, run_with, upcoming_of, until_held}
 use Common.{until_of, ended_run, Keeps, GivesGap}
 
@@ -26,11 +25,11 @@ use Common.{until_of, ended_run, Keeps, GivesGap}
 
 pub end-left : (w : Walk) → Tells w End → left w ≡ []
 unfolding left wanted
-end-left w t = search (rules, symbols-end, blocks_from-end)
+end-left = search (rules, symbols-end, blocks_from-end)
 
 pub gaps-end : (w : Walk) → upcoming_of w ≡ End → w.run ≡ None → gaps_left w ≡ []
 unfolding runs
-gaps-end w e r = ap (λ o. runs (pending o ++ left w)) r ∙ ap runs (end-left w (told w End e))
+gaps-end w e r = ap (λ o. runs (pending o ++ left w)) r ∙ ap runs (end-left w (told w _ e))
 
 -- ---- held symbols that are wanted for one reason
 
@@ -45,7 +44,7 @@ run-more : (n i : ℕ) (r : Reason) (run : Option Gap) (ws : List (SymbolId × R
     → EndsBefore n i run → ended_run run (Wanted r) ≡ None
     → pending (Some (run_with n i r run)) ++ ws ≡ pending run ++ (entry n r i ∷ ws)
 run-more n i r None ws e h =
-    let k : i + 1 - i ≡ 1 = omega arith in ap (λ k. map (entry n r) (range_with_len i k) ++ ws) k
+    let k : i + 1 - i ≡ 1 = omega arith in rw k
 run-more n i r (Some g) ws e h =
     let k : i + 1 - g.first ≡ g.last + 1 - g.first + 1 = omega arith in
     let n = g.last + 1 - g.first in
@@ -54,23 +53,23 @@ run-more n i r (Some g) ws e h =
 
 pub run-ends : (n i : ℕ) (r : Reason) (run : Option Gap) → EndsBefore n i run → ended_run run
     (Wanted r) ≡ None → r ≢ Missing → EndsBefore n (i + 1) (Some (run_with n i r run))
-run-ends x0 x1 x2 x3 x4 x5 x6 = search rules
+run-ends = search rules
 
 first-above : (p : SymbolId) (held : List Entry) → IsOrdered symbol_id_cmp held → FirstAfter p held
     → Above p (keys_of held)
-first-above x0 x1 x2 x3 = search (rules, above-before, sorted-first)
+first-above = search (rules, above-before, sorted-first)
 
 -- what is known is not missing
 known-not_missing : (info : Information) (id : SymbolId) (c : Cell (List ℕ)) → IsKnown c
     → want_cell info id (Some c) ≡ Some Missing → ⊥
-known-not_missing info id c k e = grind arith
+known-not_missing = grind arith
 
 first-known : (held : List Entry) (e : Entry) (es : List Entry) → held ≡ e ∷ es
     → EachValue IsKnown held → IsKnown e.1
-first-known held e es h k = search rules
+first-known = search rules
 
 here-known : (w : Walk) (r : Reason) → IsWalk w → AtHere w (Some r) → r ≢ Missing
-here-known w r p t = search rules
+here-known = search rules
 
 -- no symbol that is wanted for the reason comes next
 abbrev EndsRun : Reason → Upcoming → Type 0
@@ -82,8 +81,8 @@ EndsRun reason _ = Unit {0}
 module _ (w : Walk) (r : Reason) (p : IsWalk w) (h : 0 < w.esi) (d : r ≢ Missing) where
   at_end : w.esi ≡ w.size → Elsewhere (here w) r (left w)
   unfolding left
-  at_end e = rw (symbols-end w e) (elsewhere-above w.partition w.held (here w) r _
-      (above-later (here w) _ (blocks-later w p (omega (arith, e)))))
+  at_end e = rw (symbols-end w e) (elsewhere-above _ _ _ r _
+      (above-later _ _ (blocks-later w p (omega (arith, e)))))
 
   at_fitting : AtHere w None → Elsewhere (here w) r (left (after_take w))
   unfolding left
@@ -93,51 +92,43 @@ module _ (w : Walk) (r : Reason) (p : IsWalk w) (h : 0 < w.esi) (d : r ≢ Missi
   unfolding left
   at_not_held t =
       let l = inside-less w p t.0 in
-      subst (λ xs. Elsewhere (here w) r (wanted w.partition w.held xs)) (sym (symbols-first w l))
-      (elsewhere-here w.partition w.held (here w) r (others_left w)
-      (λ e. d (sym (same_Some Missing r
-      (sym (ap (want_cell w.partition (here w))
-      (value-before w.held (here w) (first-above (here w) w.held p.ordered t.1))) ∙ e))))
-      (others-above w p l))
+      rw (symbols-first w l) (elsewhere-here w.partition w.held (here w) r (others_left w) (λ e. d (sym (same_Some Missing r (sym (ap (want_cell w.partition (here w)) (value-before w.held (here w) (first-above (here w) w.held p.ordered t.1))) ∙ e)))) (others-above w p l))
 
   pub stop-elsewhere : (l : Upcoming) → upcoming_of w ≡ l → EndsRun r l
       → Elsewhere (here w) r (left w)
-  stop-elsewhere End e s = at_end (told w End e).0
-  stop-elsewhere BlockEnd e s = at_end (told w BlockEnd e).0
+  stop-elsewhere End e s = at_end (told w _ e).0
+  stop-elsewhere BlockEnd e s = at_end (told w _ e).0
   stop-elsewhere Passed e s = absurd s
   stop-elsewhere Fitting e s =
-      let t = told w Fitting e in
-      subst (Elsewhere (here w) r) (sym (taken-left w.run w None p t)) (at_fitting t)
-  stop-elsewhere (Wanted q) e s = subst (Elsewhere (here w) r)
-      (sym (taken-left w.run w (Some q) p (told w (Wanted q) e))) (λ f g. s g)
-  stop-elsewhere NotHeld e s = at_not_held (told w NotHeld e)
+      let t = told w _ e in
+      rw (taken-left w.run w None p t) (at_fitting t)
+  stop-elsewhere (Wanted q) e s = rw (taken-left w.run w (Some q) p (told w (Wanted q) e)) (λ f g. s g)
+  stop-elsewhere NotHeld e s = at_not_held (told w _ e)
 
 -- a wanted symbol is put to the run
 pub step-want : (w : Walk) (r : Reason) → IsWalk w → AtHere w (Some r)
     → ended_run w.run (Wanted r) ≡ None → Keeps w (after_want r w)
 step-want w r p t h =
     let run = Some (run_with w.sbn w.esi r w.run) in
-    taken-keeps run w (Some r) p t (run-ends w.sbn w.esi r w.run p.running h (here-known w r p t))
-    (run-more w.sbn w.esi r w.run (left (taken run w)) p.running h
-    ∙ ap (λ ws. pending w.run ++ ws) (sym (taken-left run w (Some r) p t)))
+    taken-keeps _ w _ p t (run-ends _ _ r _ p.running h (here-known w r p t))
+    (run-more _ _ r _ _ p.running h ∙ ap (λ ws. pending w.run ++ ws) (sym (taken-left run w _ p t)))
 
 -- the run that ends is given
 ends-upcoming : (g : Gap) (l : Upcoming) → ended_run (Some g) l ≡ Some g → EndsRun g.reason l
-ends-upcoming g l h = search rules
+ends-upcoming = search rules
 
 pub gap-run : (w : Walk) (g : Gap) → IsWalk w → w.run ≡ Some g
     → ended_run w.run (upcoming_of w) ≡ Some g → GivesGap w g (record w { run = None })
 unfolding left
 gap-run w g p e h =
-    let q : EndsBefore w.sbn w.esi (Some g) = subst (EndsBefore w.sbn w.esi) e p.running in
+    let q = subst (EndsBefore w.sbn w.esi) e p.running in
     let z : 0 < w.esi = omega arith in
     let y : w.esi ≡ g.last + 1 = omega arith in
     let k : g.last + 1 - 1 ≡ g.last = omega arith in
     let j : w.esi - 1 ≡ g.last = omega arith in
     let f : here w ≡ symbol_id g.sbn (g.last + 1) = λ i. symbol_id (sym q.0 i) (y i) in
-    let x : Elsewhere (here w) g.reason (left w) = stop-elsewhere w g.reason p z q.3 (upcoming_of w)
-    refl (ends-upcoming g (upcoming_of w) (ap (λ o. ended_run o (upcoming_of w)) (sym e) ∙ h)) in
-    record {
+    let x = stop-elsewhere w _ p z q.3 _ refl
+    (ends-upcoming g _ (ap (λ o. ended_run o (upcoming_of w)) (sym e) ∙ h)) in record {
       walk = record {
         ordered = p.ordered;
         known = p.known;
@@ -148,17 +139,15 @@ gap-run w g p e h =
         behind = p.behind;
         running = tt;
       };
-      first = ap (λ o. runs (pending o ++ left w)) e ∙ runs-first g.sbn g.first (g.last + 1)
-          g.reason (left w) (omega arith) (subst (λ x. Elsewhere x g.reason (left w)) f x) ∙
+      first = ap (λ o. runs (pending o ++ left w)) e ∙ runs-first _ _ _ _ _ (omega arith)
+          (subst (λ x. Elsewhere x g.reason (left w)) f x) ∙
           (λ i. record g { last = k i } ∷ runs (left w));
       held_is = refl;
       begun_is = refl;
       partition_is = refl;
       passes = record {
-        begun = sym (p.in_block (let n = p.within in omega (arith, n, z))) ∙ ap (λ n. n + 1)
-            (sym q.0);
-        behind = subst (λ n. IsBehind n g.last w.held) (sym q.0)
-            (subst (λ i. IsBehind w.sbn i w.held) j (p.behind z));
+        begun = rw (← p.in_block (let n = p.within in omega (arith, n, z)), ← q.0);
+        behind = rw q.0 (subst (λ i. IsBehind w.sbn i w.held) j (p.behind z));
       };
     }
 
@@ -166,7 +155,7 @@ gap-run w g p e h =
 
 pub greater-cases : (p q : SymbolId) → symbol_id_cmp p q ≡ Greater
     → (q.sbn < p.sbn) ⊎ ((p.sbn ≡ q.sbn) × (q.esi < p.esi))
-greater-cases p q h = grind (arith, nat_tests)
+greater-cases = grind (arith, nat_tests)
 
 -- up to u nothing of the block is held, and u is its end or the first held symbol
 record Until (n a size u : ℕ) (held : List Entry) : Type 0 where
@@ -178,27 +167,19 @@ record Until (n a size u : ℕ) (held : List Entry) : Type 0 where
 
 first-less : (n i : ℕ) (e : Entry) (es : List Entry) → IsOrdered symbol_id_cmp (e ∷ es)
     → symbol_id_cmp (symbol_id n i) e.0 ≡ Less → IsBehind n i (e ∷ es)
-first-less n i e es s l = (l, above-before (symbol_id n i) e.0 (keys_of es) l (sorted-first e es s))
+first-less n i e es s l = (l, above-before _ _ _ l (sorted-first e _ s))
 
 -- the order of ids within a block, and beyond it
 less_in : (n i : ℕ) (p : SymbolId) → p.sbn ≡ n → i < p.esi → symbol_id_cmp (symbol_id n i) p ≡ Less
-less_in n i p e l = search rules
+less_in = search rules
 
 beyond : (m n j size : ℕ) → ((m == n) && nat_lt j size) ≡ false → m ≡ n → size ≤ j
-beyond m n j size t e = grind (arith, nat_tests)
+beyond = grind (arith, nat_tests)
 
 -- until_held gives the ESI of the block's first held symbol, or its end
 until-is : (n a size : ℕ) (held : List Entry) → a < size → IsOrdered symbol_id_cmp held
     → FirstAfter (symbol_id n a) held → Until n a size (until_held n size held) held
-until-is x0 x1 x2 x3 x4 x5 x6 = search (
-  rules,
-  cases_Bool,
-  greater-cases,
-  first-less,
-  less_in,
-  sbn-less,
-  beyond,
-)
+until-is = search (rules, cases_Bool, greater-cases, first-less, less_in, sbn-less, beyond)
 
 -- a block's ids, cut in two
 block-append : (n a k j : ℕ) → map (symbol_id n) (range_with_len a (k + j)) ≡ map (symbol_id n)
@@ -213,7 +194,7 @@ block-split : (n a u size : ℕ) → a ≤ u → u ≤ size
 block-split n a u size l m =
     let e : size - a ≡ u - a + (size - u) = omega arith in
     let f : a + (u - a) ≡ u = omega arith in
-    rw (e, block-append n a (u - a) (size - u), f)
+    rw (e, block-append n a _ _, f)
 
 -- the next symbols are not held
 abbrev pub after_missing : Walk → Walk
@@ -222,13 +203,13 @@ after_missing w = record w { esi = until_of w }
 until-walk : (w : Walk) → IsWalk w → upcoming_of w ≡ NotHeld
     → Until w.sbn w.esi w.size (until_of w) w.held
 until-walk w p e =
-    let t = told w NotHeld e in
-    until-is w.sbn w.esi w.size w.held (inside-less w p t.0) p.ordered t.1
+    let t = told w _ e in
+    until-is _ _ _ _ (inside-less w p t.0) p.ordered t.1
 
 -- a gap of symbols that are not held: what is left after it, and that nothing continues it
 missing-walk : (w : Walk) → IsWalk w → w.run ≡ None → until_of w ≤ w.size
     → IsBehind w.sbn (until_of w - 1) w.held → IsWalk (after_missing w)
-missing-walk w p r l b = search rules
+missing-walk = search rules
 
 missing-elsewhere : (w : Walk) → IsWalk w → 0 < w.size → ((until_of w ≡ w.size) ⊎ ((until_of w <
     w.size) × (e : Entry) × (es : List Entry) × (w.held ≡ e ∷ es) ×
@@ -236,18 +217,13 @@ missing-elsewhere : (w : Walk) → IsWalk w → 0 < w.size → ((until_of w ≡ 
     (left (after_missing w))
 unfolding left
 missing-elsewhere w p l (inl e) =
-    let q = symbol_id w.sbn (until_of w) in
-    let a = above-later q (blocks_from w.partition w.begun) (blocks-later w p l) in
-    rw (symbols-end (after_missing w) e) (elsewhere-above w.partition w.held q Missing _ a)
+    let q = symbol_id _ _ in
+    let a = above-later q _ (blocks-later w p l) in
+    rw (symbols-end (after_missing w) e) (elsewhere-above _ _ q _ _ a)
 missing-elsewhere w p l (inr n) =
-    let q = symbol_id w.sbn (until_of w) in
+    let q = symbol_id _ _ in
     let e = n.1 in
-    subst (λ xs. Elsewhere q Missing (wanted w.partition w.held xs))
-    (sym (symbols-first (after_missing w) n.0)) (elsewhere-here w.partition w.held q Missing
-    (others_left (after_missing w)) (λ z. known-not_missing w.partition q e.1
-    (first-known w.held e n.2 n.3 p.known) (sym (ap (want_cell w.partition q)
-    (ap (λ (x : List Entry). value_at symbol_id_cmp x q) n.3 ∙ value-here e n.2 q n.4)) ∙ z))
-    (above-block w.sbn (until_of w) w.size (blocks_from w.partition w.begun) (blocks-later w p l)))
+    rw (symbols-first (after_missing w) n.0) (elsewhere-here w.partition w.held q Missing (others_left (after_missing w)) (λ z. known-not_missing w.partition q e.1 (first-known w.held e n.2 n.3 p.known) (sym (ap (want_cell w.partition q) (ap (λ (x : List Entry). value_at symbol_id_cmp x q) n.3 ∙ value-here e n.2 q n.4)) ∙ z)) (above-block w.sbn (until_of w) w.size (blocks_from w.partition w.begun) (blocks-later w p l)))
 
 missing-left : (w : Walk) → Until w.sbn w.esi w.size (until_of w) w.held
     → left w ≡ map (λ i. (symbol_id w.sbn i, Missing)) (range_with_len w.esi (until_of w - w.esi))
@@ -256,12 +232,10 @@ unfolding left
 missing-left w u =
     let rest = blocks_from w.partition w.begun in
     ap (λ xs. wanted w.partition w.held (xs ++ rest))
-    (block-split w.sbn w.esi (until_of w) w.size (omega arith) u.within)
-    ∙ ap (wanted w.partition w.held)
+    (block-split w.sbn w.esi (until_of w) w.size (omega arith) u.within) ∙ ap (wanted _ _)
     (append_assoc (block_from w.sbn w.esi (until_of w)) (block_from w.sbn (until_of w) w.size) rest)
-    ∙ wanted-missing w.partition w.held w.sbn w.esi (until_of w - w.esi)
-    (block_from w.sbn (until_of w) w.size ++ rest)
-    (λ i h. value-before w.held (symbol_id w.sbn i) (u.before i (omega (arith, h))))
+    ∙ wanted-missing _ _ _ _ _ (block_from _ _ _ ++ rest)
+    (λ i h. value-before w.held (symbol_id _ i) (u.before i (omega (arith, h))))
 
 abbrev missing_gap_of : Walk → Gap
 missing_gap_of w = record { sbn = w.sbn; first = w.esi; last = until_of w - 1; reason = Missing }
@@ -272,15 +246,14 @@ pub gap-missing : (w : Walk) → IsWalk w → w.run ≡ None → upcoming_of w �
     (after_missing w)
 gap-missing w p r e =
     let u = until-walk w p e in
-    let behind = u.before (until_of w - 1) (omega arith) in
+    let behind = u.before _ (omega arith) in
     record {
       walk = missing-walk w p r u.within behind;
       held_is = refl;
       begun_is = refl;
       partition_is = refl;
       passes = record { begun = sym (p.in_block (omega arith)); behind = behind };
-      first = ap (λ o. runs (pending o ++ left w)) r ∙ ap runs (missing-left w u) ∙ runs-first w.sbn
-          w.esi (until_of w) Missing (left (after_missing w)) u.less
-          (missing-elsewhere w p (omega arith) u.next) ∙ ap
+      first = ap (λ o. runs (pending o ++ left w)) r ∙ ap runs (missing-left w u) ∙ runs-first _ _ _
+          _ _ u.less (missing-elsewhere w p (omega arith) u.next) ∙ ap
           (λ o. missing_gap_of w ∷ runs (pending o ++ left (after_missing w))) (sym r);
     }

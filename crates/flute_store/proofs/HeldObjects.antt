@@ -1,10 +1,10 @@
 -- The objects of a store, one after another (specs/HeldObjects).
-use Rattle.std.proofs.Common.{◌≡◌, ℕ, List, [], ◌∷◌, ◌++◌, refl, ap, ◌∙◌}
+use Rattle.std.proofs.Common.{◌≡◌, ℕ, List, [], ◌∷◌, ◌++◌, refl, ◌∙◌}
 use Rattle.std.proofs.lemmas.Grind.{flat_map-append}
 use Rattle.flute_store.{specs.HeldObjects.{keyed, keyed_objects, HaveObjects}, specs.Walk.{facts_in}}
 use Rattle.flute_store.proofs.FactEntries.{each-append}
 use Rattle.flute_store.proofs.Common
-use Common.{EachValue, Session, ObjectName, Key, Object, key_in}
+use Common.{EachValue, Session, ObjectName, Key, Object}
 use Common.{object_facts, session_facts, content, IsObject, IsSession}
 
 each-keyed : {n : ℕ} (s : Session) (os : List (ObjectName × Object n)) → EachValue IsObject os
@@ -15,7 +15,7 @@ each-keyed s (e ∷ os) p = (p.0, each-keyed s os p.1)
 facts-keyed : {n : ℕ} (s : Session) (os : List (ObjectName × Object n))
     → facts_in object_facts (keyed s os) ≡ session_facts s os
 facts-keyed s [] = refl
-facts-keyed s (e ∷ os) = ap (λ F. object_facts (key_in s e.0) e.1 ++ F) (facts-keyed s os)
+facts-keyed s (e ∷ os) = rw (facts-keyed s os)
 
 module _ {n : ℕ} where
   -- each of them is known

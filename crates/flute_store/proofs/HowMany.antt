@@ -1,4 +1,5 @@
 -- How many symbols are wanted for each reason (specs/Status).
+use Rattle.std.proofs.Common.{rules}
 use Rattle.std.proofs.Common.{◌≡◌, ℕ, zero, suc, ◌+◌, ◌-◌, ◌<◌, ◌≤◌, ◌^◌, Bool, true, false, List}
 use Rattle.std.proofs.Common.{[], ◌∷◌, ◌++◌, length, map, Some, refl, sym, ap, ◌∙◌, subst, arith}
 use Rattle.std.proofs.Common.{inl, inr}
@@ -46,17 +47,16 @@ how-range : (r s : Reason) (b : Bool) → same_reason r s ≡ b → (n a k : ℕ
     → how_many r (map (λ i. (symbol_id n i, s)) (range_with_len a k)) ≡ times b k
 unfolding how_many
 how-range r s true e n a zero = refl
-how-range r s true e n a (suc k) = rw e (ap (λ n. suc n) (how-range r s true e n (a + 1) k))
+how-range r s true e n a (suc k) = rw e (ap (λ n. suc n) (how-range r s _ e n _ k))
 how-range r s false e n a zero = refl
 how-range r s false e n a (suc k) = rw e (how-range r s false e n (a + 1) k)
 
 pub how-listed : (r : Reason) (g : Gap)
     → how_many r (listed g) ≡ times (same_reason r g.reason) (g.last + 1 - g.first)
-how-listed r g = how-range r g.reason _ refl g.sbn g.first (g.last + 1 - g.first)
+how-listed r g = how-range r _ _ refl _ _ _
 
 pub listed-length : (g : Gap) → length (listed g) ≡ g.last + 1 - g.first
-listed-length g =
-    length-map-range_with_len (λ i. (symbol_id g.sbn i, g.reason)) g.first (g.last + 1 - g.first)
+listed-length g = length-map-range_with_len (λ i. (symbol_id _ i, g.reason)) _ _
 
 pub adds-reason : (g : Gap) (old new : Wanted) (r : Reason) → g.reason ≡ r
     → new.missing ≡ old.missing + times (same_reason Missing r) (g.last + 1 - g.first)
@@ -73,7 +73,7 @@ pub record Counts (count : Wanted) (all rest : List Want) : Type 0 where
 
 pub counts-more : (g : Gap) (count new : Wanted) (all rest : List Want)
     → Counts count all (listed g ++ rest) → Adds g count new → Counts new all rest
-counts-more g count new all rest c a = omega (arith, how-append)
+counts-more = omega (arith, how-append)
 
 pub counts-few : (count : Wanted) (all rest : List Want) → Counts count all rest → length all ≤ 2 ^
     32 → (count.missing < 2 ^ 33) × (count.conflicting < 2 ^ 33) × (count.misfit < 2 ^ 33)
@@ -81,19 +81,19 @@ counts-few count all rest c l = omega (arith, how-all all)
 
 -- nothing was counted yet
 pub counts-none : (count : Wanted) (all : List Want) → IsCount count [] → Counts count all all
-counts-none count all i = omega (arith, how-nil)
+counts-none = omega (arith, how-nil)
 
 pub none-counted : (count : Wanted) → count.missing ≡ 0 → count.conflicting ≡ 0 → count.misfit ≡ 0
     → IsCount count []
 none-counted count m c f = record {
-  missing = m ∙ sym (how-nil Missing);
-  conflicting = c ∙ sym (how-nil Conflicting);
-  misfit = f ∙ sym (how-nil Misfit);
+  missing = m ∙ sym (how-nil _);
+  conflicting = c ∙ sym (how-nil _);
+  misfit = f ∙ sym (how-nil _);
 }
 
 pub counts-all : (count : Wanted) (all : List Want) → Counts count all [] → IsCount count all
 unfolding how_many
-counts-all count all c = omega arith
+counts-all = omega arith
 
 -- no more symbols are wanted than there are
 length-wanted : (info : Information) (held : List (SymbolId × Cell (List ℕ))) (xs : List SymbolId)
@@ -120,8 +120,7 @@ module _ (F : List Fact) (key : Key) (info : Information) (count : Wanted)
   unfolding runs
   is-whole a b d =
       let s = total in
-      gapless-whole F key info i
-      (ap runs (nil_from_length (wants F key info) (omega (arith, s, a, b, d))))
+      gapless-whole F _ _ i (ap runs (nil_from_length (wants F _ _) (omega (arith, s, a, b, d))))
 
   is-partial : (count.missing ≡ 0 → count.conflicting ≡ 0 → count.misfit ≡ 0 → ⊥)
       → IsPartial F key count.missing count.conflicting count.misfit
@@ -129,7 +128,7 @@ module _ (F : List Fact) (key : Key) (info : Information) (count : Wanted)
     info = info;
     information = i;
     some = λ w. let s = total in
-        let l : length (wants F key info) ≡ 0 = ap (λ (x : List Want). length x) w in
+        let l = ap (λ (x : List Want). length x) w in
         z (omega (arith, s, l)) (omega (arith, s, l)) (omega (arith, s, l));
     missing_are = c.missing;
     conflicting_are = c.conflicting;
@@ -137,7 +136,7 @@ module _ (F : List Fact) (key : Key) (info : Information) (count : Wanted)
   }
 
   pub tells-status : (n : ℕ) → n ≡ info.transfer_length → TellsStatus F key (status_of count n)
-  tells-status n l = elim (cases_Bool (all_zero count)) [
+  tells-status n l = elim (cases_Bool _) [
     | inl t ↦
         let p = both (count.missing == 0) ((count.conflicting == 0) && (count.misfit == 0)) t in
         let q = both (count.conflicting == 0) (count.misfit == 0) p.1 in
@@ -151,10 +150,10 @@ pub store-status : {n : ℕ} {F : List Fact} {key : Key} {x : Object n} {info : 
     → (count : Wanted) → IsCount count (flat_map listed gs) → (length : ℕ)
     → length ≡ info.transfer_length → TellsStatus F key (status_of count length)
 store-status {n} {F} {key} {x} {info} {held} {gs} t count c =
-    let told = wants-told F key x info t.told in
-    let all = ap (flat_map listed) t.gaps_are ∙ runs-listed (wanted info held (ids info)) ∙ ap
-    (λ s. wanted info s (ids info)) t.held_is ∙ sym told in tells-status F key info count
-    (told-information F key x info t.told t.info_is) (subst (IsCount count) all c)
+    let told = wants-told F _ x _ t.told in
+    let all = ap (flat_map _) t.gaps_are ∙ runs-listed _ ∙ ap
+    (λ s. wanted info s (ids info)) t.held_is ∙ sym told in tells-status F _ _ _
+    (told-information F _ x _ t.told t.info_is) (subst (IsCount count) all c)
 
 -- ---- gap after gap
 
@@ -166,10 +165,4 @@ pub record FirstGap (g : Gap) (gs : List Gap) (count : Wanted) (all : List Want)
 pub first-gap : (g : Gap) (gs rest : List Gap) (count : Wanted) (all : List Want) → gs ≡ g ∷ rest
     → AreRuns gs → Counts count all (flat_map listed gs) → FirstGap g rest count all
 unfolding AreRuns
-first-gap g gs rest count all e r c =
-    let s : AreRuns (g ∷ rest) = subst AreRuns e r in
-    record {
-      order = s.0;
-      runs_are = s.2;
-      counted = subst (λ (x : List Gap). Counts count all (flat_map listed x)) e c;
-    }
+first-gap = search rules

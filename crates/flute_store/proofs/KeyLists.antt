@@ -1,5 +1,6 @@
 -- Store::objects: the keys of a store rise, and are those of the objects it holds.
-use Rattle.std.proofs.Common.{◌≡◌, ℕ, zero, suc, List, [], ◌∷◌, ◌++◌, Some, refl, sym, ap, ◌∙◌}
+use Rattle.std.proofs.Common.{rules}
+use Rattle.std.proofs.Common.{◌≡◌, ℕ, List, [], ◌∷◌, ◌++◌, Some, refl, sym, ap, ◌∙◌}
 use Rattle.std.proofs.Common.{subst, inl, inr, ◌↔◌, arith}
 use Rattle.std.proofs.Common.{map}
 use Rattle.std.proofs.lemmas.List.{map-append}
@@ -8,7 +9,7 @@ use Rattle.flute_store.proofs.FactEntries.{each-append}
 use Rattle.flute_store.proofs.StoreJoin.{OrderedSession, OrderedStore, ordered-store}
 use Rattle.flute_store.proofs.Exceeding.{first_value, later_value, solid-store, object_stands}
 use Rattle.flute_store.proofs.Common
-use Common.{Contains, flat_map, Less, is_eq, ordering_then, Equal-is, keys_of, AllByRecursion, cases_Bool}
+use Common.{Contains, flat_map, Less, is_eq, Equal-is, keys_of, AllByRecursion, cases_Bool}
 use Common.{IsStrictlySortedBy, tied_itself, Contains-append_left, Contains-append_right, same_Some}
 use Common.{Contains-append_cases, sorted_tail, none-some, value_at, IsOrdered, EachValue, Session}
 use Common.{ObjectName, Key, session_cmp, object_cmp, key_cmp, session_total, object_total}
@@ -33,8 +34,7 @@ rise-append (x ∷ xs) ys p q b =
     (each-append (λ y. key_cmp x y ≡ Less) xs ys p.0 b.0, rise-append xs ys p.1 q b.1)
 
 pub one_is : {X : Type 0} (y x : X) → Contains (y ∷ []) x → y ≡ x
-one_is y x (zero, l, e) = e
-one_is y x (suc k, l, e) = absurd (omega (arith, l))
+one_is = search rules
 
 pub first_is : {X : Type 0} (x : X) (xs : List X) → Contains (x ∷ xs) x
 first_is x xs = (0, omega arith, refl)
@@ -46,74 +46,67 @@ module _ {X : Type 0} where
   session-keys-are : (s : Session) (es : List (ObjectName × X))
       → keys_of (keyed s es) ≡ session_keys s es
   session-keys-are s [] = refl
-  session-keys-are s (e ∷ es) = ap (λ ks. key_in s e.0 ∷ ks) (session-keys-are s es)
+  session-keys-are s (e ∷ es) = rw (session-keys-are s es)
 
   keys-are : (m : List (Session × List (ObjectName × X)))
       → keys_of (keyed_objects (λ os. os) m) ≡ store_keys m
   keys-are [] = refl
-  keys-are (e ∷ m) = map-append (λ (x : Key × X). x.0) (keyed e.0 e.1) (keyed_objects (λ os. os) m)
+  keys-are (e ∷ m) = map-append (λ (x : Key × X). x.0) (keyed _ _) (keyed_objects (λ os. os) m)
       ∙ (λ i. session-keys-are e.0 e.1 i ++ keys-are m i)
 
   object_before : (s : Session) (o : ObjectName) (es : List (ObjectName × X)) → AllByRecursion
       (λ y. object_cmp o y ≡ Less) (keys_of es) → Before (key_in s o) (session_keys s es)
   object_before s o [] p = tt
-  object_before s o (e ∷ es) p = (
-    ap (λ r. ordering_then r (object_cmp o e.0))
-        (tied_itself session_total s) ∙ p.0,
-    object_before s o es p.1,
-  )
+  object_before s o (e ∷ es) p = (rw (tied_itself session_total s, p.0), object_before s o es p.1)
 
   session_rises : (s : Session) (es : List (ObjectName × X)) → IsOrdered object_cmp es
       → IsStrictlySortedBy key_cmp (session_keys s es)
   unfolding IsStrictlySortedBy
   session_rises s [] p = tt
-  session_rises s (e ∷ es) p = (object_before s e.0 es p.0, session_rises s es p.1)
+  session_rises s (e ∷ es) p = (object_before s _ _ p.0, session_rises s es p.1)
 
   session_before : (k : Key) (s : Session) (es : List (ObjectName × X))
       → session_cmp k.session s ≡ Less → Before k (session_keys s es)
   session_before k s [] l = tt
-  session_before k s (e ∷ es) l =
-      (ap (λ r. ordering_then r (object_cmp k.object e.0)) l, session_before k s es l)
+  session_before k s (e ∷ es) l = (rw l, session_before k s es l)
 
   sessions_before : (k : Key) (m : List (Session × List (ObjectName × X)))
       → AllByRecursion (λ y. session_cmp k.session y ≡ Less) (keys_of m) → Before k (store_keys m)
   sessions_before k [] p = tt
-  sessions_before k (e ∷ m) p = each-append (λ y. key_cmp k y ≡ Less) (session_keys e.0 e.1)
-      (store_keys m) (session_before k e.0 e.1 p.0) (sessions_before k m p.1)
+  sessions_before k (e ∷ m) p = each-append (λ y. key_cmp k y ≡ Less) (session_keys _ _)
+      (store_keys m) (session_before k _ _ p.0) (sessions_before k m p.1)
 
   all_before : (s : Session) (es : List (ObjectName × X))
       (m : List (Session × List (ObjectName × X))) → AllByRecursion (λ y. session_cmp s y ≡ Less)
       (keys_of m) → AllByRecursion (λ k. Before k (store_keys m)) (session_keys s es)
   all_before s [] m p = tt
-  all_before s (e ∷ es) m p = (sessions_before (key_in s e.0) m p, all_before s es m p)
+  all_before s (e ∷ es) m p = (sessions_before _ m p, all_before s es m p)
 
   -- ---- a key of the list is looked up
   in_session : (s : Session) (es : List (ObjectName × X)) (k : Key) → IsOrdered object_cmp es
       → Contains (session_keys s es) k
       → (k.session ≡ s) × ((v : X) × (value_at object_cmp es k.object ≡ Some v))
   in_session s [] k p c = absurd (none_in k c)
-  in_session s (e ∷ es) k p c =
-      elim (Contains-append_cases (key_in s e.0 ∷ []) (session_keys s es) k c) [
-        | inl h ↦
-            let q = one_is (key_in s e.0) k h in (
-              sym (ap (λ (z : Key). z.session) q),
-              (
-                e.1,
-                subst (λ (z : Key). value_at object_cmp (e ∷ es) z.object ≡ Some e.1) q
-                    (first_value object_total object_tells e es),
-              ),
-            )
-        | inr h ↦
-            let r = in_session s es k (sorted_tail object_cmp e.0 (keys_of es) p) h in
-            (r.0, (r.1.0, later_value object_total object_tells e es k.object r.1.0 p r.1.1))
-      ]
+  in_session s (e ∷ es) k p c = elim (Contains-append_cases (key_in s _ ∷ []) _ k c) [
+    | inl h ↦ let q = one_is (key_in s _) k h in (
+      sym (ap (λ z. z.session) q),
+      (
+        e.1,
+        subst
+            (λ (z : Key). value_at object_cmp (e ∷ es) z.object ≡ Some e.1) q
+            (first_value object_total object_tells e es),
+      ),
+    )
+    | inr h ↦ let r = in_session s es k (sorted_tail _ _ _ p) h in
+        (r.0, (r.1.0, later_value object_total object_tells e _ _ _ p r.1.1))
+  ]
 
   session_has : (s : Session) (es : List (ObjectName × X)) (o : ObjectName) (v : X)
       → value_at object_cmp es o ≡ Some v → Contains (session_keys s es) (key_in s o)
   session_has s [] o v f = absurd (none-some v f)
-  session_has s (e ∷ es) o v f = elim (cases_Bool (is_eq (object_cmp o e.0))) [
-    | inl t ↦ let same = object_place o e.0 ((Equal-is (object_cmp o e.0)).0 t) in rw same
-        (first_is (key_in s e.0) (session_keys s es))
+  session_has s (e ∷ es) o v f = elim (cases_Bool (is_eq _)) [
+    | inl t ↦ let same = object_place o _ ((Equal-is (object_cmp o e.0)).0 t) in rw same
+        (first_is _ _)
     | inr t ↦ Contains-append_right (key_in s e.0 ∷ []) _ _ (session_has s es o v (rw t at f))
   ]
 
@@ -123,8 +116,8 @@ module _ {n : ℕ} where
       → EachValue OrderedSession m → IsStrictlySortedBy key_cmp (store_keys m)
   unfolding IsStrictlySortedBy
   sessions_rise [] p q = tt
-  sessions_rise (e ∷ m) p q = rise-append (session_keys e.0 e.1) (store_keys m)
-      (session_rises e.0 e.1 q.0.ordered) (sessions_rise m p.1 q.1) (all_before e.0 e.1 m p.0)
+  sessions_rise (e ∷ m) p q = rise-append (session_keys _ _) (store_keys m)
+      (session_rises _ _ q.0.ordered) (sessions_rise m p.1 q.1) (all_before _ _ m p.0)
 
   pub keys_rise : (m : List (Session × List (ObjectName × Object n))) → OrderedStore m
       → IsStrictlySortedBy key_cmp (keys_of (keyed_objects (λ os. os) m))
@@ -135,32 +128,30 @@ module _ {n : ℕ} where
       → (os : List (ObjectName × Object n)) × (x : Object n)
       × (value_at session_cmp m k.session ≡ Some os) × (value_at object_cmp os k.object ≡ Some x)
   in_store [] k p q c = absurd (none_in k c)
-  in_store (e ∷ m) k p q c =
-      elim (Contains-append_cases (session_keys e.0 e.1) (store_keys m) k c) [
-        | inl h ↦
-            let r = in_session e.0 e.1 k q.0.ordered h in (
-              e.1,
-              r.1.0,
-              subst (λ z. value_at session_cmp (e ∷ m) z ≡ Some e.1) (sym r.0)
-                  (first_value session_total session_tells e m),
-              r.1.1,
-            )
-        | inr h ↦
-            let r = in_store m k (sorted_tail session_cmp e.0 (keys_of m) p) q.1 h in
-            (r.0, r.1, later_value session_total session_tells e m k.session r.0 p r.2, r.3)
-      ]
+  in_store (e ∷ m) k p q c = elim (Contains-append_cases _ _ k c) [
+    | inl h ↦ let r = in_session _ _ k q.0.ordered h in (
+      e.1,
+      r.1.0,
+      subst
+          (λ z. value_at session_cmp (e ∷ m) z ≡ Some e.1) (sym r.0)
+          (first_value session_total session_tells e m),
+      r.1.1,
+    )
+    | inr h ↦ let r = in_store m k (sorted_tail _ _ _ p) q.1 h in
+        (r.0, r.1, later_value session_total session_tells e m _ _ p r.2, r.3)
+  ]
 
   store_has : (m : List (Session × List (ObjectName × Object n))) (s : Session) (o : ObjectName)
       (os : List (ObjectName × Object n)) (x : Object n) → value_at session_cmp m s ≡ Some os →
       value_at object_cmp os o ≡ Some x → Contains (store_keys m) (key_in s o)
-  store_has [] s o os x f h = absurd (none-some os f)
-  store_has (e ∷ m) s o os x f h = elim (cases_Bool (is_eq (session_cmp s e.0))) [
+  store_has [] s o os x f h = absurd (none-some _ f)
+  store_has (e ∷ m) s o os x f h = elim (cases_Bool _) [
     | inl t ↦
         let same = session_place s e.0 ((Equal-is (session_cmp s e.0)).0 t) in
         let there = same_Some e.1 os (rw t at f) in
         Contains-append_left (session_keys e.0 e.1) (store_keys m) (key_in s o)
         (rw (there, ← same) (session_has s os o x h))
-    | inr t ↦ Contains-append_right (session_keys e.0 e.1) _ _ (store_has m s o os x (rw t at f) h)
+    | inr t ↦ Contains-append_right (session_keys e.0 e.1) _ _ (store_has m s o _ x (rw t at f) h)
   ]
 
   -- they are those of the objects of which something is held

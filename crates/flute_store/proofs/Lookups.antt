@@ -1,12 +1,13 @@
 -- The symbols of a partition are in rising order, and what is wanted of them (specs/Objects).
+use Rattle.std.proofs.Common.{rules}
 use Rattle.std.proofs.Common.{◌≡◌, ℕ, zero, suc, ◌+◌, ◌-◌, ◌<◌, get_or, List, [], ◌∷◌, ◌++◌, length}
-use Rattle.std.proofs.Common.{map, drop, refl, ap, ◌∙◌, arith, cond, Option, Some, None, sym, subst}
+use Rattle.std.proofs.Common.{map, drop, refl, arith, Option, Some, None, sym, subst}
 use Rattle.std.proofs.{Math.Nat.{sub-zero}, lemmas.List.{drop_more}, Math.Seq.{drop-length}}
 use Rattle.flute_store.proofs.Common
 use Common.{flat_map, range_with_len, enumerate_from, AllByRecursion, Less, nat_tests, Information}
 use Common.{sizes, symbol_id_cmp, symbol_id, block_ids, ids, symbol_id_total, SymbolId, block_from}
-use Common.{blocks_from, option_map, cons_option, keys_of, is_eq, ordering_reverse, false≢true}
-use Common.{value_at, Cell, symbol_id_itself, Reason, Missing, want_cell, with_reason, wanted}
+use Common.{blocks_from, option_map, cons_option, keys_of}
+use Common.{value_at, Cell, Reason, Missing, want_cell, with_reason, wanted}
 
 -- each of the symbols is after p
 abbrev pub Above : SymbolId → List SymbolId → Type 0
@@ -17,10 +18,10 @@ abbrev pub Later : ℕ → List SymbolId → Type 0
 Later n xs = AllByRecursion (λ (x : SymbolId). n < x.sbn) xs
 
 pub sbn-less : (a b : SymbolId) → a.sbn < b.sbn → symbol_id_cmp a b ≡ Less
-sbn-less a b l = grind (arith, nat_tests)
+sbn-less = grind (arith, nat_tests)
 
 pub esi-less : (n a b : ℕ) → a < b → symbol_id_cmp (symbol_id n a) (symbol_id n b) ≡ Less
-esi-less n a b l = grind (arith, nat_tests)
+esi-less = grind (arith, nat_tests)
 
 pub above-before : (p q : SymbolId) (xs : List SymbolId) → symbol_id_cmp p q ≡ Less → Above q xs
     → Above p xs
@@ -44,40 +45,34 @@ later-block n m a (suc k) xs l s = (l, later-block n m (a + 1) k xs l s)
 later-listing : (n m : ℕ) (sizes : List ℕ) → n < m
     → Later n (flat_map block_ids (enumerate_from m sizes))
 later-listing n m [] l = tt
-later-listing n m (s ∷ sizes) l =
-    later-block n m 0 s (flat_map block_ids (enumerate_from (m + 1) sizes)) l
+later-listing n m (s ∷ sizes) l = later-block n m 0 s _ l
     (later-listing n (m + 1) sizes (omega arith))
 
 pub later-blocks : (info : Information) (n m : ℕ) → n < m → Later n (blocks_from info m)
 unfolding blocks_from
-later-blocks info n m l = later-listing n m (drop m (sizes info)) l
+later-blocks info n m l = later-listing n m (drop m _) l
 
 -- a block begins with its first symbol
 pub block_from-first : (n a s : ℕ) → a < s
     → block_from n a s ≡ symbol_id n a ∷ block_from n (a + 1) s
-block_from-first n a s l =
-    let e : s - a ≡ suc (s - (a + 1)) =
-    omega arith in ap (λ k. map (symbol_id n) (range_with_len a k)) e
+block_from-first = search rules
 
 pub block_from-end : (n s : ℕ) → block_from n s s ≡ []
-block_from-end n s =
-    let e : s - s ≡ zero = omega arith in ap (λ k. map (symbol_id n) (range_with_len s k)) e
+block_from-end = search rules
 
 pub above-block : (n a s : ℕ) (xs : List SymbolId) → Later n xs
     → Above (symbol_id n a) (block_from n (a + 1) s ++ xs)
-above-block n a s xs l =
-    above-range n a (a + 1) (s - (a + 1)) xs (omega arith) (above-later (symbol_id n a) xs l)
+above-block n a s xs l = above-range n a (a + 1) (s - (a + 1)) xs (omega arith) (above-later _ _ l)
 
 -- the blocks from one on are that one and those after it
 pub blocks_from-next : (info : Information) (n : ℕ) → n < length (sizes info)
     → blocks_from info n ≡ block_from n 0 (get_or (sizes info) n 0) ++ blocks_from info (n + 1)
 unfolding blocks_from
-blocks_from-next info n l = rw (drop_more (sizes info) n 0 l, sub-zero)
+blocks_from-next info n l = rw (drop_more _ n 0 l, sub-zero)
 
 pub blocks_from-end : (info : Information) → blocks_from info (length (sizes info)) ≡ []
 unfolding blocks_from
-blocks_from-end info = ap (λ xs. flat_map block_ids (enumerate_from (length (sizes info)) xs))
-    (drop-length (sizes info))
+blocks_from-end info = rw (drop-length (sizes info))
 
 pub blocks_from-all : (info : Information) → blocks_from info 0 ≡ ids info
 unfolding blocks_from ids
@@ -90,20 +85,17 @@ Entry = SymbolId × Cell (List ℕ)
 
 pub value-past : (e : Entry) (es : List Entry) (q : SymbolId) → symbol_id_cmp e.0 q ≡ Less
     → value_at symbol_id_cmp (e ∷ es) q ≡ value_at symbol_id_cmp es q
-value-past e es q l = ap (λ o. cond (is_eq o) (Some e.1) (value_at symbol_id_cmp es q))
-    (symbol_id_total.antisymm q e.0 ∙ ap ordering_reverse l)
+value-past = search rules
 
 pub value-here : (e : Entry) (es : List Entry) (q : SymbolId) → e.0 ≡ q
     → value_at symbol_id_cmp (e ∷ es) q ≡ Some e.1
-value-here e es q h = ap (λ b. cond b (Some e.1) (value_at symbol_id_cmp es q))
-    (ap (λ x. is_eq (symbol_id_cmp q x)) h ∙ symbol_id_itself q)
+value-here = search rules
 
 -- nothing is held of a symbol before all that are held
 pub value-before : (es : List Entry) (q : SymbolId) → Above q (keys_of es)
     → value_at symbol_id_cmp es q ≡ None
 value-before [] q a = refl
-value-before (e ∷ es) q a =
-    ap (λ o. cond (is_eq o) (Some e.1) (value_at symbol_id_cmp es q)) a.0 ∙ value-before es q a.1
+value-before (e ∷ es) q a = rw (a.0, value-before es q a.1)
 
 -- a held symbol does not matter to those after it
 pub wanted-past : (info : Information) (e : Entry) (es : List Entry) (xs : List SymbolId)
@@ -118,7 +110,7 @@ pub wanted-here : (info : Information) (e : Entry) (es : List Entry) (q : Symbol
     (option_map (with_reason q) (want_cell info q (Some e.1))) (wanted info es xs)
 unfolding wanted
 wanted-here info e es q xs h a =
-    rw (value-here e es q h, wanted-past info e es xs (subst (λ z. Above z xs) (sym h) a))
+    rw (value-here e _ q h, wanted-past info e es xs (subst (λ z. Above z xs) (sym h) a))
 
 -- symbols of which nothing is held are missing
 pub wanted-missing : (info : Information) (held : List Entry) (n a k : ℕ) (xs : List SymbolId)
@@ -138,25 +130,21 @@ Elsewhere p r (w ∷ ws) = w.0 ≡ p → w.1 ≡ r → ⊥
 elsewhere-cons : (p x : SymbolId) (r : Reason) (o : Option Reason) (ws : List (SymbolId × Reason))
     → (x ≡ p → o ≡ Some r → ⊥) → Elsewhere p r ws
     → Elsewhere p r (cons_option (option_map (with_reason x) o) ws)
-elsewhere-cons p x r None ws h e = e
-elsewhere-cons p x r (Some q) ws h e = λ f g. h f (ap Some g)
+elsewhere-cons = search rules
 
 not_itself : (p x : SymbolId) → symbol_id_cmp p x ≡ Less → x ≡ p → ⊥
-not_itself p x l e =
-    false≢true (sym (ap is_eq (ap (symbol_id_cmp p) (sym e) ∙ l)) ∙ symbol_id_itself p)
+not_itself = search rules
 
 pub elsewhere-above : (info : Information) (held : List Entry) (p : SymbolId) (r : Reason)
     (xs : List SymbolId) → Above p xs → Elsewhere p r (wanted info held xs)
 unfolding wanted
 elsewhere-above info held p r [] a = tt
-elsewhere-above info held p r (x ∷ xs) a =
-    elsewhere-cons p x r (want_cell info x (value_at symbol_id_cmp held x)) (wanted info held xs)
-    (λ e f. not_itself p x a.0 e) (elsewhere-above info held p r xs a.1)
+elsewhere-above info held p r (x ∷ xs) a = elsewhere-cons p x r (want_cell _ x _)
+    (wanted info held xs) (λ e f. not_itself p x a.0 e) (elsewhere-above info held p r xs a.1)
 
 pub elsewhere-here : (info : Information) (held : List Entry) (p : SymbolId) (r : Reason)
     (xs : List SymbolId) → (want_cell info p (value_at symbol_id_cmp held p) ≡ Some r → ⊥)
     → Above p xs → Elsewhere p r (wanted info held (p ∷ xs))
 unfolding wanted
-elsewhere-here info held p r xs h a =
-    elsewhere-cons p p r (want_cell info p (value_at symbol_id_cmp held p)) (wanted info held xs)
-    (λ e f. h f) (elsewhere-above info held p r xs a)
+elsewhere-here info held p r xs h a = elsewhere-cons p p r _ _ (λ e f. h f)
+    (elsewhere-above _ _ p r _ a)

@@ -16,10 +16,10 @@ use Common.{ObjectNeedsMemory}
 from_address : (F G : List Fact) (a : Address) → fact_at G a ≢ None → fact_at F a ≡ None
     → HasNew F G
 from_address F G a h e =
-    let f = a_fact G a h in (f.0, Contains-from G f.0 f.1, ap (fact_at F) f.2 ∙ e)
+    let f = a_fact G a h in (f.0, Contains-from G _ f.1, rw (f.2, e))
 
 has_value : {T : Type 0} (c : Cell T) → IsSome (one_value c) → IsKnown c
-has_value c h = grind arith
+has_value = grind arith
 
 module _ {n : ℕ} {m w : List (Session × List (ObjectName × Object n))} (p : SolidStore m)
     (q : SolidStore w) where
@@ -31,10 +31,10 @@ module _ {n : ℕ} {m w : List (Session × List (ObjectName × Object n))} (p : 
       new_info : CellNeedsMemory x.info y.info → HasNew (content m) (content w)
       new_info (e, v) =
           let key = key_in s o in
-          from_address (content m) (content w) (info_address key) (λ z. info_stands key y.info
-          (has_value y.info v) (sym (at-info (ordered_store q) key g k) ∙ z)) (at-info
-          (ordered_store p) key f h ∙ ap (λ c. fact_at (info_cell_facts key c) (info_address key)) e
-          ∙ fact_at-nil (info_address key))
+          from_address _ _ (info_address _) (λ z. info_stands key y.info
+          (has_value _ v) (sym (at-info (ordered_store q) _ g k) ∙ z)) (at-info
+          (ordered_store p) _ f h ∙ ap (λ c. fact_at (info_cell_facts key c) (info_address key)) e
+          ∙ fact_at-nil (info_address _))
 
       new_symbol : (id : SymbolId) (d : Cell (List ℕ)) → value_at symbol_id_cmp y.symbols id ≡ Some
           d → (found : Option (Cell (List ℕ))) → value_at symbol_id_cmp x.symbols id ≡ found →
@@ -44,10 +44,10 @@ module _ {n : ℕ} {m w : List (Session × List (ObjectName × Object n))} (p : 
           let known =
           each-value_at object_cmp SolidObject ws o y
           (each-value_at session_cmp SolidSession w s ws q.each g).each k in
-          from_address (content m) (content w) (symbol_address key id)
-          (symbol_stands q s g o k id b
+          from_address _ _ (symbol_address _ _)
+          (symbol_stands q s g o k _ b
           (each-value_at symbol_id_cmp IsKnown y.symbols id d known.each b))
-          (at-symbol (ordered_store p) key f h id found a ∙ nothing found needs)
+          (at-symbol (ordered_store p) _ f h _ _ a ∙ nothing _ needs)
         where
           nothing : (found : Option (Cell (List ℕ))) → ForSome found (λ c. CellNeedsMemory c d)
               → option_map_or (λ c. fact_at (symbol_cell_facts (key_in s o) id c)
@@ -60,16 +60,15 @@ module _ {n : ℕ} {m w : List (Session × List (ObjectName × Object n))} (p : 
 
       new_in_object : ObjectNeedsMemory x y → HasNew (content m) (content w)
       new_in_object (inl needs) = new_info needs
-      new_in_object (inr (id, d, b, needs)) =
-          new_symbol id d b (value_at symbol_id_cmp x.symbols id) refl needs
+      new_in_object (inr (id, d, b, needs)) = new_symbol _ d b _ refl needs
 
     new_object : (o : ObjectName) {y : Object n} → value_at object_cmp ws o ≡ Some y →
         (found : Option (Object n)) → value_at object_cmp os o ≡ found → ForSome found
         (λ x. ObjectNeedsMemory x y) → HasNew (content m) (content w)
     new_object o k None h needs =
         let stands = object_stands q s g o k in
-        from_address (content m) (content w) (record { key = key_in s o; part = stands.0 }) stands.1
-        (at-found (ordered_store p) (key_in s o) f stands.0 None h)
+        from_address _ _ (record { key = key_in s o; part = stands.0 }) stands.1
+        (at-found (ordered_store p) _ f _ _ h)
     new_object o k (Some x) h needs = new_in_object o h k (needs x refl)
 
   new_session : (s : Session) {ws : List (ObjectName × Object n)} → value_at session_cmp w s ≡ Some
@@ -89,4 +88,4 @@ module _ {n : ℕ} {m w : List (Session × List (ObjectName × Object n))} (p : 
   -- joining the second store asks for memory only if it holds something new
   pub needs-new : MapNeedsMemory session_cmp (MapNeedsMemory object_cmp ObjectNeedsMemory) m w
       → HasNew (content m) (content w)
-  needs-new (s, ws, g, needs) = new_session s g (value_at session_cmp m s) refl needs
+  needs-new (s, ws, g, needs) = new_session s g _ refl needs

@@ -6,7 +6,7 @@ use Rattle.std.proofs.Math.Nat.{eq-zero-or-pos}
 use Rattle.flute_parts.proofs.Public.{div_ceil-pos, ids_counted, places-inverse}
 use Rattle.flute_store.proofs.Common
 use Common.{flat_map, ◌==◌, slice_get-get_or, eqb-true, or_cases, both, Information, symbol_count}
-use Common.{IsValid, symbol_address, fact_at, ids, place, last_length, fits_at, fits, Key, SymbolId}
+use Common.{IsValid, symbol_address, fact_at, ids, last_length, fits_at, fits, Key, SymbolId}
 use Common.{Fact, Whole, value_bytes, object}
 
 -- each symbol has e bytes, or is the last and has m
@@ -31,17 +31,14 @@ fits-length : (info : Information) (id : SymbolId) (n k : ℕ) → IsValid info 
     → (n ≡ info.symbol_length) ⊎ ((k + 1 ≡ length (ids info)) × (n ≡ last_length info))
 unfolding fits
 fits-length info id n k v l g h =
-    let at_k : place info id ≡ Some k = (places-inverse info id k).1
-    (slice_get-get_or (ids info) k id l ∙ ap Some g) in
-    let count = ids_counted info v in
-    let told : fits_at info (Some k) n ≡ true = sym (ap (λ p. fits_at info p n) at_k) ∙ h in
+    let at_k = (places-inverse info id k).1 (slice_get-get_or _ k _ l ∙ ap Some g) in
+    let count = ids_counted _ v in
+    let told = sym (ap (λ p. fits_at info p n) at_k) ∙ h in
     elim (or_cases (n == info.symbol_length)
     ((k + 1 == symbol_count info) && (n == last_length info)) told) [
-      | inl p ↦ inl (eqb-true n info.symbol_length p)
-      | inr p ↦ let q = both (k + 1 == symbol_count info) (n == last_length info) p in inr (
-        eqb-true (k + 1) (symbol_count info) q.0 ∙ sym count,
-        eqb-true n (last_length info) q.1,
-      )
+      | inl p ↦ inl (eqb-true n _ p)
+      | inr p ↦ let q = both (k + 1 == symbol_count info) (n == last_length info) p in inr
+          (eqb-true _ _ q.0 ∙ sym count, eqb-true n _ q.1)
     ]
 
 symbol_bytes : List Fact → Key → SymbolId → List ℕ
@@ -62,8 +59,8 @@ each-symbol F key info v w k id l g =
 -- the last symbol is no longer than the others
 last-short : (info : Information) → 0 < info.symbol_length → last_length info ≤ info.symbol_length
 last-short info h =
-    let b = div_ceil_times info.transfer_length info.symbol_length h in
-    shorter info.transfer_length (symbol_count info) info.symbol_length b.0
+    let b = div_ceil_times info.transfer_length _ h in
+    shorter _ _ _ b.0
   where
     shorter : (l t e : ℕ) → l ≤ t * e → l - (t - 1) * e ≤ e
     shorter l zero e h = omega (arith, h)

@@ -1,16 +1,17 @@
 -- One pair joined into a map: the joined map is sound, or beyond a limit (specs/WellFormed).
+use Rattle.std.proofs.Common.{rules}
 use Rattle.std.proofs.Common.{◌≡◌, ◌≢◌, ℕ, ◌+◌, ◌<◌, ◌≤◌, List, [], ◌∷◌, length, Bool, Option, Some}
-use Rattle.std.proofs.Common.{None, refl, sym, ap, ◌∙◌, subst, inl, inr, arith, bytes_eq}
+use Rattle.std.proofs.Common.{None, sym, ap, ◌∙◌, subst, inl, inr, arith, bytes_eq}
 use Rattle.std.proofs.lemmas.Map.{length-set_value}
 use Rattle.flute_join.proofs.Public.{ordered_one}
-use Rattle.flute_store.proofs.FactEntries.{AreKeys, session_keys, object_keys, symbol_keys}
+use Rattle.flute_store.proofs.FactEntries.{AreKeys, session_keys, object_keys}
 use Rattle.flute_store.proofs.Common
 use Common.{cases_Bool, same_Some, Ordering, is_at, none-some, IsJoin, IsBelow, map_join, value_at}
 use Common.{IsOrdered, EachValue, IsSound, map_join_laws, below_join, ordered-map_join}
 use Common.{each-value_at, each-set_value, each-insert_entry, some_above, single_held}
 use Common.{single_new, length_new}
 use Common.{cell_join, IsKnown, Cell, Absent, SymbolId, SymbolUpdate, update_cell, update_symbols}
-use Common.{AnyValue, value_at-map_join, join_values, tied_itself, cells, object_cmp, session_cmp}
+use Common.{AnyValue, value_at-map_join, join_values, tied_itself, object_cmp, session_cmp}
 use Common.{symbol_id_cmp, object_join, session_join, object_join_laws, session_laws}
 
 module _ {K X : Type 0} (cmp : K → K → Ordering) (B : X → Type 0) where
@@ -28,7 +29,7 @@ pub record AreJoined {K X : Type 0} (cmp : K → K → Ordering) (join : X → X
   pub laws : IsJoin join
 
 pub symbols_joined : AreJoined symbol_id_cmp (cell_join bytes_eq)
-symbols_joined = record { keys = symbol_keys; laws = cells }
+symbols_joined = search rules
 
 pub objects_joined : (n : ℕ) → AreJoined object_cmp (object_join {n = n})
 objects_joined n = record { keys = object_keys; laws = object_join_laws n }
@@ -46,14 +47,14 @@ pub record IsMap {K X : Type 0} (cmp : K → K → Ordering) (limit : ℕ) (P : 
 pub has-room : {K X : Type 0} {cmp : K → K → Ordering} {limit : ℕ} {P : X → Type 0}
     (es : List (K × X)) → IsOrdered cmp es → EachValue P es → length es < limit
     → IsMap cmp limit P es
-has-room es s a room = record { ordered = s; within = omega (arith, room); each = a }
+has-room = search rules
 
 module _ {K X : Type 0} {cmp : K → K → Ordering} {join : X → X → X} (all : AreJoined cmp join) where
   pub some-right : (es fs : List (K × X)) → fs ≢ [] → map_join cmp join es fs ≢ []
   some-right es fs h =
       let laws = map_join_laws all.keys.order all.keys.same all.laws in
-      some_above all.keys.order join fs (map_join cmp join es fs)
-      (subst (IsBelow (map_join cmp join) fs) (laws.commutative fs es) (below_join laws fs es)) h
+      some_above all.keys.order _ _ _
+      (subst (IsBelow (map_join cmp join) fs) (laws.commutative _ _) (below_join laws fs es)) h
 
   -- one pair is joined into a map
   abbrev pub with_pair : List (K × X) → K → X → List (K × X)
@@ -65,7 +66,7 @@ module _ {K X : Type 0} {cmp : K → K → Ordering} {join : X → X → X} (all
       (ordered_one all.keys.order all.keys.same all.laws (k, w))
 
   pair-some : (es : List (K × X)) (k : K) (w : X) → with_pair es k w ≢ []
-  pair-some es k w = some-right es ((k, w) ∷ []) (λ e. cc)
+  pair-some es k w = some-right _ _ (λ e. cc)
 
   pair-longer : (es : List (K × X)) (k : K) (w : X) (limit : ℕ) → value_at cmp es k ≡ None
       → length (with_pair es k w) ≡ length es + 1
@@ -78,9 +79,9 @@ module _ {K X : Type 0} {cmp : K → K → Ordering} {join : X → X → X} (all
     pub held-sound : {v : X} → value_at cmp es k ≡ Some v → P (join v w)
         → IsSound cmp limit P (with_pair es k w)
     held-sound {v} f p =
-        let is = single_held all.keys.order all.laws es k v w m.ordered f in
+        let is = single_held all.keys.order all.laws _ k v w m.ordered f in
         let same_length : length (with_pair es k w) ≡ length es = ap length is ∙ length-set_value
-        (is_at (cmp k)) es (join v w) in record {
+        (is_at _) es (join v w) in record {
           ordered = pair-ordered es k w m.ordered;
           within = (let l = m.within in omega (arith, l, same_length));
           some = pair-some es k w;
@@ -92,13 +93,12 @@ module _ {K X : Type 0} {cmp : K → K → Ordering} {join : X → X → X} (all
     pub new-sound : value_at cmp es k ≡ None → length es < limit → P w
         → IsSound cmp limit P (with_pair es k w)
     new-sound f room p =
-        let longer = pair-longer es k w limit f in
+        let longer = pair-longer _ k w limit f in
         record {
-          ordered = pair-ordered es k w m.ordered;
+          ordered = pair-ordered _ k w m.ordered;
           within = omega (arith, longer, room);
-          some = pair-some es k w;
-          each = subst (EachValue P) (sym (single_new all.keys.order all.laws es k w f))
-              (each-insert_entry cmp P es k w m.each p);
+          some = pair-some _ k w;
+          each = rw (single_new all.keys.order all.laws es k w f) (each-insert_entry cmp P es k w m.each p);
         }
 
     -- so it is if there is room, where a join keeps what holds of each value
@@ -119,30 +119,28 @@ module _ {K X : Type 0} {cmp : K → K → Ordering} {join : X → X → X} (all
     -- beyond a limit: at a held key, at a new one, and at a new key of a full map
     pub held-beyond : (B : X → Type 0) {v : X} → IsOrdered cmp es → value_at cmp es k ≡ Some v
         → B (join v w) → AnyValue B (with_pair es k w)
-    held-beyond B {v} s f p =
-        any-value_at cmp B (with_pair es k w) k (join v w) (joined_there (Some v) s f) p
+    held-beyond B {v} s f p = any-value_at cmp B _ k _ (joined_there _ s f) p
 
     pub new-beyond : (B : X → Type 0) → IsOrdered cmp es → value_at cmp es k ≡ None → B w
         → AnyValue B (with_pair es k w)
-    new-beyond B s f p = any-value_at cmp B (with_pair es k w) k w (joined_there None s f) p
+    new-beyond B s f p = any-value_at cmp B _ k w (joined_there _ s f) p
 
     pub full-beyond : (limit : ℕ) → value_at cmp es k ≡ None → length es ≡ limit
         → limit < length (with_pair es k w)
     full-beyond limit f full =
-        let longer = pair-longer es k w limit f in omega (arith, longer, full)
+        let longer = pair-longer _ k w limit f in omega (arith, longer, full)
 
 -- ---- cells
 pub update-some : (o : Option (SymbolId × SymbolUpdate)) → o ≢ None → update_symbols o ≢ []
-update-some None h = λ e. h refl
-update-some (Some t) h = λ e. cc
+update-some = search rules
 
 pub known-join : {T : Type 0} (eq : T → T → Bool) (c d : Cell T) → IsKnown c
     → IsKnown (cell_join eq c d)
-known-join eq c d h = grind arith
+known-join = grind arith
 
 pub absent-right : {T : Type 0} (eq : T → T → Bool) (c d : Cell T) → cell_join eq c d ≡ Absent
     → d ≡ Absent
-absent-right eq c d e = grind arith
+absent-right = grind arith
 
 pub known-update : (t : SymbolUpdate) → IsKnown (update_cell t)
-known-update t = grind arith
+known-update = grind arith

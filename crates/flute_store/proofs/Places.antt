@@ -1,17 +1,16 @@
 -- The place of a walk after a turn, whatever is held after the next symbol (specs/PartitionScan).
-use Rattle.std.proofs.lemmas.Grind.{common_steps}
 use Rattle.std.proofs.Common.{rules}
-use Common.{nat_tests, ◌==◌, Ordering, Less, Equal, Greater, match_ordering, ne_eqb, eq-eqb, sizes}
-use Common.{symbol_id_cmp, symbol_id_place, symbol_id, fits, SymbolId, Reason, Missing, Misfit, Gap}
+use Common.{Ordering, Less, Equal, Greater, match_ordering, sizes}
+use Common.{symbol_id_cmp, symbol_id_place, symbol_id, fits, SymbolId, Reason, Missing, Gap}
 use Common.{Turn, Upcoming, End, BlockEnd, Passed, Fitting, Wanted, NotHeld, PartitionScan}
-use Common.{EndsBefore, IsPlace, want_length, upcoming_wanted, upcoming_next, upcoming_at, until_at}
-use Common.{ended_run, run_with, missing_gap, after_missing, after_wanted, after_block, turn_after}
+use Common.{IsPlace, want_length, upcoming_wanted, upcoming_next, upcoming_at, until_at}
+use Common.{ended_run, missing_gap, after_missing, after_wanted, after_block, turn_after}
 use Common.{turn_of, run_length, CountsWithin, Counted}
-use Rattle.std.proofs.Common.{◌≡◌, ◌≢◌, ℕ, ◌+◌, ◌-◌, ◌*◌, ◌<◌, ◌≤◌, ◌^◌, ◌⊎◌, Bool, true, false}
-use Rattle.std.proofs.Common.{cond, Option, Some, None, refl, sym, ap, ◌∙◌, subst, arith, inl, inr}
+use Rattle.std.proofs.Common.{◌≡◌, ◌≢◌, ℕ, ◌+◌, ◌-◌, ◌*◌, ◌<◌, ◌≤◌, ◌^◌, ◌⊎◌, true}
+use Rattle.std.proofs.Common.{Option, Some, None, refl, sym, ap, subst, arith}
 use Rattle.std.specs.Prelude.{length}
 use Rattle.flute_store.proofs.Upcoming.{by-place}
-use Rattle.flute_store.proofs.{GapSteps.{greater-cases, run-ends}, Turns.{run-is, no-run}}
+use Rattle.flute_store.proofs.{GapSteps.{run-ends}, Turns.{no-run}}
 use Rattle.flute_store.proofs.Common
 
 abbrev Next : Type 0
@@ -22,24 +21,22 @@ Next = Option (SymbolId × Option ℕ)
 pub at-end : (w : PartitionScan) (next : Next) → w.esi ≡ w.size
     → w.begun ≡ length (sizes w.partition) → End ≡ upcoming_at w next
 unfolding upcoming_at
-at-end w next e f = search rules
+at-end = search rules
 
 pub at-block_end : (w : PartitionScan) (next : Next) → w.esi ≡ w.size
     → w.begun ≢ length (sizes w.partition) → BlockEnd ≡ upcoming_at w next
 unfolding upcoming_at
-at-block_end w next e f = search rules
+at-block_end = search rules
 
 pub at-inside : (w : PartitionScan) (next : Next) → w.esi ≢ w.size
     → upcoming_next w.partition (symbol_id w.sbn w.esi) next ≡ upcoming_at w next
 unfolding upcoming_at
-at-inside w next i = search rules
+at-inside = search rules
 
 pub at-first : (w : PartitionScan) (id : SymbolId) (n : Option ℕ) (o : Ordering) → w.esi ≢ w.size →
     symbol_id_cmp id (symbol_id w.sbn w.esi) ≡ o → match_ordering o Passed
     (upcoming_wanted (want_length w.partition id n)) NotHeld ≡ upcoming_at w (Some (id, n))
-at-first w id n o i c =
-    ap (λ o. match_ordering o Passed (upcoming_wanted (want_length w.partition id n)) NotHeld)
-    (sym c) ∙ at-inside w (Some (id, n)) i
+at-first w id n o i c = rw (← c, at-inside w (Some (id, n)) i)
 
 -- ---- what each case of `upcoming_at` says
 
@@ -60,12 +57,12 @@ TellsAt w next NotHeld = (w.esi ≢ w.size) × IsAfter (symbol_id w.sbn w.esi) n
 tells-wanted : (w : PartitionScan) (next : Next) (n : Option ℕ) → w.esi ≢ w.size
     → next ≡ Some (symbol_id w.sbn w.esi, n)
     → TellsAt w next (upcoming_wanted (want_length w.partition (symbol_id w.sbn w.esi) n))
-tells-wanted x0 x1 x2 x3 x4 = search rules
+tells-wanted = search rules
 
 tells-next : (w : PartitionScan) (next : Next) → w.esi ≢ w.size
     → TellsAt w next (upcoming_next w.partition (symbol_id w.sbn w.esi) next)
 tells-next w None i = (i, tt)
-tells-next w (Some next) i = by_order (symbol_id_cmp next.0 (symbol_id w.sbn w.esi)) refl
+tells-next w (Some next) i = by_order _ refl
   where
     by_order : (o : Ordering) → symbol_id_cmp next.0 (symbol_id w.sbn w.esi) ≡ o
         → TellsAt w (Some next) (match_ordering o Passed
@@ -81,29 +78,29 @@ tells-next w (Some next) i = by_order (symbol_id_cmp next.0 (symbol_id w.sbn w.e
 pub told-at : (w : PartitionScan) (next : Next) (l : Upcoming) → upcoming_at w next ≡ l
     → TellsAt w next l
 unfolding upcoming_at
-told-at w next l h = search (rules, by-place, sizes, tells-next)
+told-at = search (rules, by-place, sizes, tells-next)
 
 -- ---- where the next held symbol is
 
 until-beyond : (w : PartitionScan) (next : Next) → w.esi < w.size
     → IsAfter (symbol_id w.sbn w.esi) next → (w.esi < until_at w next) × (until_at w next ≤ w.size)
-until-beyond x0 x1 x2 x3 = search rules
+until-beyond = search rules
 
 module _ (w : PartitionScan) (next : Next) (p : IsPlace w) where
   inside : w.esi ≢ w.size → w.esi < w.size
-  inside i = search rules
+  inside = search rules
 
   pub until-within : upcoming_at w next ≡ NotHeld
       → (w.esi < until_at w next) × (until_at w next ≤ w.size)
-  until-within h = let t = told-at w next NotHeld h in until-beyond w next (inside t.0) t.1
+  until-within h = let t = told-at w _ _ h in until-beyond w _ (inside t.0) t.1
 
   pub block-next : upcoming_at w next ≡ BlockEnd → w.begun < length (sizes w.partition)
   block-next h =
-      let t = told-at w next BlockEnd h in let l = p.begun in let n = t.1 in omega (arith, l, n)
+      let t = told-at w _ _ h in let l = p.begun in let n = t.1 in omega (arith, l, n)
 
   pub wanted-small : (r : Reason) → upcoming_at w next ≡ Wanted r → w.esi < 65536
   wanted-small r h =
-      let t = told-at w next (Wanted r) h in let l = inside t.0 in let m = p.longest in
+      let t = told-at w _ _ h in let l = inside t.0 in let m = p.longest in
       omega (arith, l, m)
 
   -- after a turn a walk is in its place
@@ -116,7 +113,6 @@ module _ (w : PartitionScan) (next : Next) (p : IsPlace w) where
     longest = s;
     running = tt;
   }
-  place-on End None e h s = p
   place-on BlockEnd None e h s =
       let b = block-next e in
       record {
@@ -124,42 +120,42 @@ module _ (w : PartitionScan) (next : Next) (p : IsPlace w) where
         begun = omega (arith, b);
         within = omega arith;
         longest = s;
-        running = subst (EndsBefore w.begun 0) (sym (no-run w.run BlockEnd tt h)) tt;
+        running = rw (no-run w.run BlockEnd tt h) tt;
       }
-  place-on Passed None e h s = p
   place-on Fitting None e h s =
-      let l = inside (told-at w next Fitting e).0 in
+      let l = inside (told-at w _ _ e).0 in
       record {
         blocks = p.blocks;
         begun = p.begun;
         within = omega (arith, l);
         longest = s;
-        running = subst (EndsBefore w.sbn (w.esi + 1)) (sym (no-run w.run Fitting tt h)) tt;
+        running = rw (no-run w.run Fitting tt h) tt;
       }
   place-on (Wanted r) None e h s =
-      let t = told-at w next (Wanted r) e in
+      let t = told-at w _ _ e in
       let l = inside t.0 in
       record {
         blocks = p.blocks;
         begun = p.begun;
         within = omega (arith, l);
         longest = s;
-        running = run-ends w.sbn w.esi r w.run p.running h t.1;
+        running = run-ends _ _ r _ p.running h t.1;
       }
   place-on NotHeld None e h s = record {
     blocks = p.blocks;
     begun = p.begun;
     within = (until-within e).1;
     longest = s;
-    running = subst (EndsBefore w.sbn (until_at w next)) (sym (no-run w.run NotHeld tt h)) tt;
+    running = rw (no-run w.run NotHeld tt h) tt;
   }
+  place-on other None e h s = p
 
   -- and a walk that a turn led to is
   pub placed : (answer : Option Turn) (x : PartitionScan) → (answer, x) ≡ turn_of w next
       → x.size ≤ 65536 → IsPlace x
   unfolding turn_of
   placed answer x e s =
-      let p = ap (λ (t : Option Turn × PartitionScan). t.1) e in
+      let p = ap (λ t. t.1) e in
       rw p (place-on _ _ refl refl (rw p at s))
 
 -- ---- which turn was made
@@ -178,12 +174,12 @@ Kind w next (Some Turn.End) x = (upcoming_at w next ≡ End) × (w.run ≡ None)
 
 kind-on : (w : PartitionScan) (next : Next) (l : Upcoming) (o : Option Gap) → upcoming_at w next ≡ l
     → ended_run w.run l ≡ o → Kind w next (turn_after w next l o).0 (turn_after w next l o).1
-kind-on x0 x1 x2 x3 x4 x5 = search rules
+kind-on = search rules
 
 pub kind : (w : PartitionScan) (next : Next) (t : Option Turn) (x : PartitionScan)
     → (t, x) ≡ turn_of w next → Kind w next t x
 unfolding turn_of
-kind w next t x e = search rules
+kind = search rules
 
 -- ---- no more is counted than was passed
 
@@ -196,13 +192,13 @@ module _ {w : PartitionScan} (next : Next) (c : Counted) (p : IsPlace w)
     (h : CountsWithin w c) where
   pub within-turn : (t : Option Turn) (x : PartitionScan) → NoGap t → Kind w next t x
       → CountsWithin x c
-  within-turn x0 x1 x2 x3 = search rules
+  within-turn = search rules
 
   -- a gap has a symbol, and with its symbols counted this holds too
   pub within-gap : (g : Gap) (x : PartitionScan) → Kind w next (Some (Turn.Gap g)) x →
       (g.first ≤ g.last) × (c.missing + c.conflicting + c.misfit + (g.last + 1 - g.first) +
       run_length x.run ≤ x.begun * 65536 + x.esi)
-  within-gap x0 x1 x2 = search (rules, until-within)
+  within-gap = search (rules, until-within)
 
   -- so the counts together are below 2^33
   pub small : c.missing + c.conflicting + c.misfit < 2 ^ 33

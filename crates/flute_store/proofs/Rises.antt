@@ -1,5 +1,4 @@
 -- The facts of a store rise, and how many they are (specs/Content).
-use Rattle.std.proofs.lemmas.Grind.{common_steps}
 use Rattle.std.proofs.Common.{rules}
 use Rattle.std.proofs.Common.{ℕ, ◌+◌, ◌*◌, ◌≤◌, List, [], ◌∷◌, length, arith, length-append, ◌≡◌}
 use Rattle.std.proofs.Common.{◌++◌, refl, ap, ◌∙◌}
@@ -8,7 +7,7 @@ use Rattle.flute_store.proofs.StoreJoin.{OrderedObject, OrderedSession, OrderedS
 use Rattle.std.proofs.Math.Nat.{mul-le-mul_right}
 use Rattle.flute_store.proofs.Shown.{equal_keys}
 use Rattle.flute_store.proofs.Common
-use Common.{flat_map, EachValue, Cell, Absent, One, Conflict, Session, ObjectName, Key, Fact, Info}
+use Common.{flat_map, EachValue, Cell, Session, ObjectName, Key, Fact, Info}
 use Common.{InfoConflict, Symbol, SymbolConflict, Object, key_in, cell_facts, symbol_cell_facts}
 use Common.{object_facts, session_facts, content, IsObject, IsSession, IsStore, Ordering, Less}
 use Common.{ordering_then, session_total, SymbolId, Address, session_cmp, object_cmp, key_cmp}
@@ -18,7 +17,7 @@ use Common.{info_cell_facts, symbols_facts}
 
 cell_length : {T : Type 0} (told : T → Fact) (clash : Fact) (c : Cell T)
     → length (cell_facts told clash c) ≤ 1
-cell_length told clash c = grind arith
+cell_length = grind arith
 
 -- as many as the entries, times the most that one of them has
 module _ {K X : Type 0} (f : K × X → List Fact) (P : X → Type 0) (most : ℕ)
@@ -36,18 +35,18 @@ module _ {n : ℕ} where
   object_length : (key : Key) (x : Object n) → IsObject x → length (object_facts key x) ≤ n + 1
   object_length key x p =
       let c = within_limit (λ e. symbol_cell_facts key e.0 e.1) (λ _. Unit {0}) 1
-      (λ e _. cell_length (Symbol key e.0) (SymbolConflict key e.0) e.1) n x.symbols
-      (any_value x.symbols) p.symbols_are.within in omega
+      (λ e _. cell_length (Symbol _ _) (SymbolConflict _ _) e.1) n x.symbols
+      (any_value _) p.symbols_are.within in omega
       (arith, length-append {A = Fact}, cell_length (Info key) (InfoConflict key) x.info, c)
 
   session_length : (o : ℕ) (session : Session) (os : List (ObjectName × Object n)) → IsSession o os
       → length (session_facts session os) ≤ o * (n + 1)
-  session_length o session os p = search (rules, within_limit, object_length)
+  session_length = search (rules, within_limit, object_length)
 
   -- each object has its information and no more symbols than the limit
   pub content_length : (s o : ℕ) (m : List (Session × List (ObjectName × Object n))) → IsStore s o m
       → length (content m) ≤ s * (o * (n + 1))
-  content_length s o m p = search (rules, within_limit, session_length)
+  content_length = search (rules, within_limit, session_length)
 
 -- ---- the content of a store rises
 
@@ -66,12 +65,12 @@ after-append a (f ∷ F) G h k = (h.0, after-append a F G h.1 k)
 rising-append : (F G : List Fact) → IsRising F → IsRising G → Stand (λ a. StandAfter a G) F
     → IsRising (F ++ G)
 rising-append [] G h k b = k
-rising-append (f ∷ F) G h k b = (after-append (address f) F G h.0 b.0, rising-append F G h.1 k b.1)
+rising-append (f ∷ F) G h k b = (after-append _ F G h.0 b.0, rising-append F G h.1 k b.1)
 
 stand-weaker : (P Q : Address → Type 0) → ((a : Address) → P a → Q a) → (F : List Fact) → Stand P F
     → Stand Q F
 stand-weaker P Q h [] s = tt
-stand-weaker P Q h (f ∷ F) s = (h (address f) s.0, stand-weaker P Q h F s.1)
+stand-weaker P Q h (f ∷ F) s = (h _ s.0, stand-weaker P Q h F s.1)
 
 -- groups of facts by key: each rises, is where its key says, and is before those of later keys
 record AreGroups {K X : Type 0} (cmp : K → K → Ordering) (f : K × X → List Fact)
@@ -90,30 +89,19 @@ module _ {K X : Type 0} {cmp : K → K → Ordering} {f : K × X → List Fact} 
   after_groups : (a : Address) (j : K) → In j a → (es : List (K × X))
       → AllByRecursion (λ y. cmp j y ≡ Less) (keys_of es) → StandAfter a (flat_map f es)
   after_groups a j i [] s = tt
-  after_groups a j i (e ∷ es) s = search (
-    rules,
-    after-append,
-    after_group,
-    after_groups a j i es
-        s.1,
-  )
+  after_groups a j i (e ∷ es) s = search
+      (rules, after-append, after_group, after_groups a j i es s.1)
 
   groups-rise : (es : List (K × X)) → IsOrdered cmp es → EachValue P es → IsRising (flat_map f es)
   unfolding IsStrictlySortedBy
   groups-rise [] s p = tt
-  groups-rise (e ∷ es) s p = search (
-    rules,
-    rising-append,
-    stand-weaker,
-    after_groups,
-    groups-rise
-        es s.1 p.1,
-  )
+  groups-rise (e ∷ es) s p = search
+      (rules, rising-append, stand-weaker, after_groups, groups-rise es s.1 p.1)
 
 -- the facts of one cell, of an object, and of a session rise
 cell-rises : {T : Type 0} (told : T → Fact) (clash : Fact) (c : Cell T)
     → IsRising (cell_facts told clash c)
-cell-rises x0 x1 x2 = search rules
+cell-rises = search rules
 
 after_info : (key : Key) (F : List Fact)
     → Stand (λ b. (id : SymbolId) × (b ≡ symbol_address key id)) F → StandAfter (info_address key) F
@@ -179,8 +167,7 @@ module _ {n : ℕ} where
       → ((a : Address) → a.key.session ≡ session → P a) → (os : List (ObjectName × Object n))
       → Stand P (session_facts session os)
   session-stands P session h os = each-flat_map (Of P) (λ e. object_facts (key_in session e.0) e.1)
-      (λ e. object-stands P (key_in session e.0) (λ a q. h a (ap (λ (k : Key). k.session) q)) e.1)
-      os
+      (λ e. object-stands P (key_in _ _) (λ a q. h a (ap (λ k. k.session) q)) e.1) os
 
   -- the facts of a store are in the order of their addresses
   pub content-rises : (m : List (Session × List (ObjectName × Object n))) → OrderedStore m

@@ -1,27 +1,25 @@
 -- Gaps are the longest runs of what is wanted: they list just that (specs/Objects: runs).
-use Rattle.std.proofs.Common.{◌≡◌, ℕ, zero, suc, ◌+◌, ◌-◌, ◌<◌, ◌≤◌, true, false, cond, ◌&&◌, List}
-use Rattle.std.proofs.Common.{[], ◌∷◌, ◌++◌, map, refl, sym, ap, ◌∙◌, subst, inl, inr, arith}
+use Rattle.std.proofs.Common.{rules}
+use Rattle.std.proofs.Common.{◌≡◌, ℕ, zero, suc, ◌+◌, ◌-◌, ◌<◌, ◌≤◌, true, false, List}
+use Rattle.std.proofs.Common.{[], ◌∷◌, ◌++◌, map, refl, sym, subst, inl, inr, arith}
 use Rattle.flute_store.proofs.Common
-use Common.{eqb-true, flat_map, ◌==◌, range_with_len, SymbolId, Reason, Gap, symbol_id, same_reason}
-use Common.{goes_on, one, before, runs, listed, IsApart, AreRuns, both, eqb_itself, cases_Bool}
+use Common.{flat_map, range_with_len, SymbolId, Reason, Gap, symbol_id, same_reason}
+use Common.{goes_on, one, before, runs, listed, IsApart, AreRuns, cases_Bool}
 use Rattle.flute_store.proofs.Lookups.{Elsewhere}
 
 abbrev Want : Type 0
 Want = SymbolId × Reason
 
 pub reason_same : (r s : Reason) → same_reason r s ≡ true → r ≡ s
-reason_same r s h = grind arith
+reason_same = grind arith
 
 pub reason_itself : (r : Reason) → same_reason r r ≡ true
-reason_itself r = grind arith
+reason_itself = grind arith
 
 -- a gap that is continued by another ends just before it, in its block and for its reason
 pub goes_on-tells : (g h : Gap) → goes_on g h ≡ true
     → (g.sbn ≡ h.sbn) × (g.last + 1 ≡ h.first) × (g.reason ≡ h.reason)
-goes_on-tells g h e =
-    let p = both (g.sbn == h.sbn) ((g.last + 1 == h.first) && same_reason g.reason h.reason) e in
-    let q = both (g.last + 1 == h.first) (same_reason g.reason h.reason) p.1 in
-    (eqb-true g.sbn h.sbn p.0, eqb-true (g.last + 1) h.first q.0, reason_same g.reason h.reason q.1)
+goes_on-tells = search rules
 
 abbrev entry : ℕ → Reason → ℕ → Want
 entry n r i = (symbol_id n i, r)
@@ -30,18 +28,18 @@ entry n r i = (symbol_id n i, r)
 listed-first : (n a last : ℕ) (r : Reason) → a ≤ last
     → map (entry n r) (range_with_len a (last + 1 - a))
     ≡ entry n r a ∷ map (entry n r) (range_with_len (a + 1) (last + 1 - (a + 1)))
-listed-first n a last r h = let e : last + 1 - a ≡ suc (last + 1 - (a + 1)) = omega arith in rw e
+listed-first = search rules
 
 listed-one : (w : Want) → listed (one w) ≡ w ∷ []
-listed-one (id, r) = let e : id.esi + 1 - id.esi ≡ 1 = omega arith in rw e
+listed-one = search rules
 
 -- a gap of one symbol before others, where it is made one with the first of them
 before-listed : (w : Want) (gaps : List Gap) → AreRuns gaps
     → flat_map listed (before (one w) gaps) ≡ w ∷ flat_map listed gaps
 unfolding AreRuns
-before-listed (id, r) [] s = ap (λ xs. xs ++ []) (listed-one (id, r))
-before-listed (id, r) (h ∷ gaps) s = elim (cases_Bool (goes_on (one (id, r)) h)) [
-  | inr e ↦ rw (e, listed-one (id, r))
+before-listed (id, r) [] s = rw (listed-one (id, r))
+before-listed (id, r) (h ∷ gaps) s = elim (cases_Bool _) [
+  | inr e ↦ rw (e, listed-one _)
   | inl e ↦ let t = goes_on-tells (one (id, r)) h e in rw
       (e, listed-first h.sbn id.esi h.last h.reason (omega arith)) (λ i. entry (sym t.0 i)
       (sym t.2 i) id.esi ∷ (map (entry h.sbn h.reason)
@@ -52,16 +50,13 @@ before-listed (id, r) (h ∷ gaps) s = elim (cases_Bool (goes_on (one (id, r)) h
 lengthened : (a : ℕ) (h : Gap) (gaps : List Gap) → a ≤ h.last → AreRuns (h ∷ gaps)
     → AreRuns (record h { first = a } ∷ gaps)
 unfolding AreRuns
-lengthened a h [] l s = (l, tt, s.2)
-lengthened a h (k ∷ gaps) l s = (l, s.1, s.2)
+lengthened = search rules
 
 before-runs : (w : Want) (gaps : List Gap) → AreRuns gaps → AreRuns (before (one w) gaps)
 unfolding AreRuns
 before-runs (id, r) [] s = (omega arith, tt, tt)
-before-runs (id, r) (h ∷ gaps) s = elim (cases_Bool (goes_on (one (id, r)) h)) [
-  | inr e ↦ subst
-      (λ b. AreRuns (cond b (record h { first = id.esi } ∷ gaps) (one (id, r) ∷ h ∷ gaps)))
-      (sym e) (omega arith, e, s)
+before-runs (id, r) (h ∷ gaps) s = elim (cases_Bool _) [
+  | inr e ↦ rw e (omega arith, e, s)
   | inl e ↦ let f = (goes_on-tells (one (id, r)) h e).1 in rw e
       (lengthened id.esi h gaps (omega arith) s)
 ]
@@ -69,29 +64,26 @@ before-runs (id, r) (h ∷ gaps) s = elim (cases_Bool (goes_on (one (id, r)) h))
 pub runs-are : (ws : List Want) → AreRuns (runs ws)
 unfolding runs AreRuns
 runs-are [] = tt
-runs-are (w ∷ ws) = before-runs w (runs ws) (runs-are ws)
+runs-are (w ∷ ws) = before-runs w _ (runs-are ws)
 
 pub runs-listed : (ws : List Want) → flat_map listed (runs ws) ≡ ws
 unfolding runs
 runs-listed [] = refl
-runs-listed (w ∷ ws) = before-listed w (runs ws) (runs-are ws) ∙ ap (λ xs. w ∷ xs) (runs-listed ws)
+runs-listed (w ∷ ws) = rw (before-listed w (runs ws) (runs-are ws), runs-listed ws)
 
 abbrev gap : ℕ → ℕ → ℕ → Reason → Gap
 gap n a l r = record { sbn = n; first = a; last = l; reason = r }
 
 before-apart : (g : Gap) (gaps : List Gap) → IsApart g gaps → before g gaps ≡ g ∷ gaps
-before-apart g [] s = refl
-before-apart g (h ∷ gaps) s =
-    ap (λ b. cond b (record h { first = g.first } ∷ gaps) (g ∷ h ∷ gaps)) s
+before-apart = search rules
 
 -- where a gap begins does not matter to what follows it
 apart-from : (n a b l : ℕ) (r : Reason) (gaps : List Gap) → IsApart (gap n a l r) gaps
     → IsApart (gap n b l r) gaps
-apart-from n a b l r [] s = tt
-apart-from n a b l r (h ∷ gaps) s = s
+apart-from = search rules
 
 goes_on-next : (n a l : ℕ) (r : Reason) → goes_on (gap n a a r) (gap n (a + 1) l r) ≡ true
-goes_on-next n a l r = rw (eqb_itself n, eqb_itself (a + 1), reason_itself r)
+goes_on-next = search rules
 
 -- the symbols of a gap and then others: that gap before the others' runs, if these do not continue
 -- it
@@ -101,11 +93,8 @@ gap-runs : (k n a : ℕ) {l : ℕ} (r : Reason) (ws : List Want) {gaps : List Ga
 unfolding runs
 gap-runs zero n a {l} r ws {gaps} h e s =
     let same : l ≡ a = omega arith in
-    rw (e, same) (before-apart (gap n a a r) gaps (subst (λ x. IsApart (gap n a x r) gaps) same s))
-gap-runs (suc k) n a {l} r ws {gaps} h e s = ap (before (gap n a a r))
-    (gap-runs k n (a + 1) r ws (omega arith) e (apart-from n a (a + 1) l r gaps s)) ∙ ap
-    (λ b. cond b (gap n a l r ∷ gaps) (gap n a a r ∷ gap n (a + 1) l r ∷ gaps))
-    (goes_on-next n a l r)
+    rw (e, same) (before-apart _ _ (rw (← same) s))
+gap-runs (suc k) n a {l} r ws {gaps} h e s = rw (gap-runs k n (a + 1) r ws (omega arith) e (apart-from n a (a + 1) l r gaps s), goes_on-next n a l r)
 
 pub runs-unique : (gaps : List Gap) → AreRuns gaps → runs (flat_map listed gaps) ≡ gaps
 unfolding runs AreRuns
@@ -113,7 +102,7 @@ runs-unique [] s = refl
 runs-unique (g ∷ gaps) s =
     let e : g.last + 1 - g.first ≡ suc (g.last - g.first) = omega arith in
     rw e (gap-runs (g.last - g.first) g.sbn g.first {l = g.last} g.reason _ (omega arith)
-    (runs-unique gaps s.2) s.1)
+    (runs-unique _ s.2) s.1)
 
 -- a gap that differs from the one of w
 not-goes : (g h : Gap) → (g.sbn ≡ h.sbn → g.last + 1 ≡ h.first → g.reason ≡ h.reason → ⊥)
@@ -122,21 +111,12 @@ not-goes g h n = grind (arith, goes_on-tells g h)
 
 apart-before : (g : Gap) (w : Want) (gaps : List Gap)
     → (w.0 ≡ symbol_id g.sbn (g.last + 1) → w.1 ≡ g.reason → ⊥) → IsApart g (before (one w) gaps)
-apart-before g (id, r) [] n = not-goes g (one (id, r))
-    (λ s f q. n (λ i. record { sbn = sym s i; esi = sym f i }) (sym q))
-apart-before g (id, r) (h ∷ gaps) n = elim (cases_Bool (goes_on (one (id, r)) h)) [
-  | inl e ↦ let t = goes_on-tells (one (id, r)) h e in rw e (not-goes g
-      (record h { first = id.esi })
-      (λ s f p. n (λ i. symbol_id ((t.0 ∙ sym s) i) (sym f i)) (t.2 ∙ sym p)))
-  | inr e ↦ rw e
-      (not-goes g (one (id, r)) (λ s f q. n (λ i. symbol_id (sym s i) (sym f i)) (sym q)))
-]
+apart-before x0 x1 x2 x3 = search rules
 
 pub apart-runs : (g : Gap) (ws : List Want) → Elsewhere (symbol_id g.sbn (g.last + 1)) g.reason ws
     → IsApart g (runs ws)
 unfolding runs
-apart-runs g [] e = tt
-apart-runs g (w ∷ ws) e = apart-before g w (runs ws) e
+apart-runs = search rules
 
 -- wanted symbols that follow one another for one reason, before others that do not continue them,
 -- are one gap
@@ -152,4 +132,4 @@ runs-first n a b r ws l e =
     let z : b - 1 + 1 ≡ b = omega arith in
     let f = subst (λ x. Elsewhere (symbol_id n x) r ws) (sym z) e in
     rw k (gap-runs (b - 1 - a) n a {l = b - 1} r ws (omega arith) refl
-    (apart-runs (gap n a (b - 1) r) ws f))
+    (apart-runs (gap n a _ r) _ f))

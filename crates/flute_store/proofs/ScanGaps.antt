@@ -1,4 +1,5 @@
 -- What a scan has passed and given after a turn that begins a block or gives a gap (specs/Scan).
+use Rattle.std.proofs.Common.{rules}
 use Rattle.flute_store.proofs.ScanFacts.{ordered-all, coming-all, not-whole-all}
 use Rattle.std.proofs.Common.{◌≡◌, ℕ, ◌+◌, ◌<◌, List, [], ◌∷◌, ◌++◌, length, Option, Some, None}
 use Rattle.std.proofs.Common.{refl, sym, ap, ◌∙◌, subst, inl, inr, arith, append_assoc, append-nil}
@@ -30,21 +31,21 @@ pub record Step (o : ScanState) (s : Scanned) (next : Next) (t : Option Turn) (x
 module _ {o : ScanState} {s : Scanned} {next : Next} {t : Option Turn} {x : PartitionScan}
     (p : Step o s next t x) where
   pub step-kind : Kind o.walk (held_next next) t x
-  step-kind = kind o.walk (held_next next) t x p.turn_is
+  step-kind = kind _ _ t x p.turn_is
 
   pub turns-at : (more : List Entry) → IsOrdered symbol_id_cmp (shown s.key s.facts ++ more)
       → EachValue IsKnown more → ComesAs s.key (coming_fact s.key next) more
       → TurnsTo (walk_of o.walk more) t (walk_of x (held_after t more))
   turns-at more r k h =
-      let walk = (p.scans.walks more r k h).walk in
+      let walk = (p.scans.walks _ r k h).walk in
       let place = subst (λ (y : Option Turn × PartitionScan). IsPlace y.1) p.turn_is p.place in
       subst (λ (y : Option Turn × PartitionScan). TurnsTo (walk_of o.walk more) y.0
       (walk_of y.1 (held_after y.0 more))) (sym p.turn_is)
-      (turn-turns o.walk more (held_next next) (shows-next s.key next more h) walk place)
+      (turn-turns _ _ _ (shows-next _ _ _ h) walk place)
 
 pub symbols-same : (x y : PartitionScan) → x ≡ y
     → symbols_left (walk_of x []) ≡ symbols_left (walk_of y [])
-symbols-same x y e = ap (λ (z : PartitionScan). symbols_left (walk_of z [])) e
+symbols-same = search rules
 
 -- the symbols that are left and the run are the same
 pub record LeavesSame (w x : PartitionScan) : Type 0 where
@@ -54,15 +55,7 @@ pub record LeavesSame (w x : PartitionScan) : Type 0 where
 pub moved-done : (s : Scanned) (coming : Option (Option Fact)) (n : ℕ) {w x : PartitionScan} →
     LeavesSame w x → (bytes : Option (List ℕ)) → IfSome bytes (λ b. FitsSoFar s w b) → IfSome bytes
     (λ b. FitsSoFar (record s { coming = coming; ahead = n }) x b)
-moved-done s coming n l None d = tt
-moved-done s coming n l (Some b) d = record {
-  done = d.done;
-  all = rw l.symbols d.all;
-  held = d.held;
-  values = d.values;
-  no_run = rw l.run d.no_run;
-  no_gap = d.no_gap;
-}
+moved-done = search rules
 
 -- a turn began a block
 pub scan-begun : {o : ScanState} {s : Scanned} {next : Next} {x : PartitionScan}
@@ -94,8 +87,7 @@ scan-begun {o} {s} {next} {x} p =
 -- the counts with this gap, and the scan after it
 counted-gap : (c d : Counted) (given : List Gap) (g : Gap) → IsCount c (flat_map listed given)
     → Adds g c d → IsCount d (flat_map listed (given ++ g ∷ []))
-counted-gap c d given g i a =
-    rw (flat_map-append listed given (g ∷ []), append-nil (listed g)) (omega (arith, how-append))
+counted-gap c d given g i a = rw (flat_map-append _ _ _, append-nil _) (omega (arith, how-append))
 
 abbrev pub behind-gap : Scanned → Next → Gap → PartitionScan → Scanned
 behind-gap s next g x = record s {

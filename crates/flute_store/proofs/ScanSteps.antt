@@ -1,4 +1,5 @@
 -- What a scan has passed and given after a turn (specs/Scan).
+use Rattle.std.proofs.Common.{rules}
 use Rattle.flute_store.proofs.ScanFacts.{Among, gaps-all, information-all, information-at}
 use Rattle.flute_store.proofs.ScanFacts.{shown-all}
 use Rattle.flute_store.proofs.ScanGaps.{Step, step-kind, symbols-same, moved-done, scan-begun}
@@ -7,7 +8,7 @@ use Rattle.flute_store.proofs.ScanSymbols.{shown-next, behind-symbol, symbol-pas
 use Rattle.flute_store.proofs.ScanSymbols.{keeps-end, held-same, passed-done, fitting-done}
 use Rattle.flute_store.proofs.ScanSymbols.{first-wanted}
 use Rattle.std.proofs.Common.{◌≡◌, ℕ, ◌+◌, ◌≤◌, List, [], ◌∷◌, ◌++◌, length, take, Option, Some}
-use Rattle.std.proofs.Common.{None, refl, sym, ap, ◌∙◌, subst, inl, inr, arith, append-nil}
+use Rattle.std.proofs.Common.{None, refl, sym, ap, ◌∙◌, subst, arith, append-nil}
 use Rattle.flute_store.proofs.{Lookups.{Entry}, GapSteps.{gaps-end}}
 use Rattle.flute_store.proofs.{HowMany.{how-all, listed-length}, BytesSteps.{found-of}}
 use Rattle.flute_store.proofs.Upcoming.{upcoming-end}
@@ -20,7 +21,7 @@ use Common.{flat_map, Contains, IfSome, option_map, Bor, none-some, value_at, Is
 use Common.{symbol_address, fact_at, IsRising, symbol_id_cmp, Key, SymbolId, Fact, Turn}
 use Common.{PartitionScan, Counted, listed, gaps, object, value_bytes, Whole, CanAdd, AddsTurn}
 use Common.{held_bytes, walk_of, symbols_left, gaps_left, IsWalk, IsPlace, turn_of, shown, Scanned}
-use Common.{next_fact, CanFollow, Follows, IsFirstPart, value_of, Turned, PartOf, BeginsBlocks}
+use Common.{CanFollow, Follows, IsFirstPart, value_of, Turned, PartOf, BeginsBlocks}
 use Common.{Next, announced, held_next, passed_at_end, Stepped, ScanState, IsScan, CountsWithin}
 use Common.{one_run, FitsSoFar, Scans, symbol_fact}
 use Rattle.flute_store.specs.declared.partition_scan.Upcoming.TheVariants as Upcoming
@@ -34,7 +35,7 @@ values-shown : (F : List Fact) (key : Key) (es more : List Entry) (xs : List Sym
 unfolding held_bytes
 values-shown F key es more xs r e h =
     let told = λ (id : SymbolId). sym (ap value_bytes (shown-at key id F r) ∙ found-of key id
-    (value_at symbol_id_cmp (shown key F) id)) in sym (held-same es more xs h) ∙ rw (← e)
+    (value_at symbol_id_cmp (shown _ F) id)) in sym (held-same es more xs h) ∙ rw (← e)
     (λ i. flat_map (λ id. told id i) xs)
 
 -- the bytes are a prefix of the object
@@ -71,11 +72,9 @@ unfolding object first-part
 whole-bytes w None d a l g = tt
 whole-bytes {s} w {F} (Some bytes) d a l g =
     let p = first-part d a in (
-      gapless-whole F s.key s.info (information-at a) (g ∙ d.no_gap),
-      ap (λ xs. take
-          s.info.transfer_length (flat_map (λ id. value_bytes (fact_at F (symbol_address s.key id))) xs))
-          (d.all ∙ ap (λ xs. d.done ++ xs) l ∙ append-nil d.done) ∙ ap (take s.info.transfer_length)
-          (sym p.values),
+      gapless-whole F _ _ (information-at a) (g ∙ d.no_gap),
+      rw
+          (d.all ∙ ap (λ xs. d.done ++ xs) l ∙ append-nil d.done, ← p.values),
     )
 
 -- after the last turn all gaps were given, and the counts are those of the gaps
@@ -133,41 +132,33 @@ state_of o x c = record o { walk = x; wanted = c }
 pub can-add : (o : ScanState) (h : Option (SymbolId × Option ℕ)) (t : Option Turn)
     (x : PartitionScan) → IsScan o → (t, x) ≡ turn_of o.walk h → CanAdd t o.wanted
 can-add o h (Some (Turn.Gap g)) x sc e = (
-  (within-gap h o.wanted sc.place sc.within g x (kind o.walk h (Some (Turn.Gap g)) x e)).0,
-  small
-      h o.wanted sc.place sc.within,
+  (within-gap h o.wanted sc.place sc.within g x (kind _ h _ x e)).0,
+  small h o.wanted sc.place
+      sc.within,
 )
 can-add o h t x sc e = tt
 
 -- the partition stays, and no block is begun twice
 moved-on : (w : PartitionScan) (h : Option (SymbolId × Option ℕ)) (t : Option Turn)
     (x : PartitionScan) → Kind w h t x → (x.partition ≡ w.partition) × (w.begun ≤ x.begun)
-moved-on w h (Some (Turn.Gap g)) x (inl k) = rw k.1 (refl, omega arith)
-moved-on w h (Some (Turn.Gap g)) x (inr k) = rw k.2 (refl, omega arith)
-moved-on w h (Some Turn.Passed) x k = rw k.1 (refl, omega arith)
-moved-on w h (Some Turn.Wanted) x k = rw k.3 (refl, omega arith)
-moved-on w h t x k = rw k.2 (refl, omega arith)
+moved-on = search rules
 
 pub begins-blocks : {o old : ScanState} (h : Option (SymbolId × Option ℕ)) {t : Option Turn}
     {x : PartitionScan} (c : Counted)
     → o ≡ old → (t, x) ≡ turn_of o.walk h → IsPlace x → BeginsBlocks old (state_of o x c)
 begins-blocks {o} h {t} {x} c v e p =
-    let m = moved-on o.walk h t x (kind o.walk h t x e) in
+    let m = moved-on o.walk h t x (kind _ h t x e) in
     rw (← v) (record { partition_is = m.0; onward = m.1; within = p.begun })
 
 pub begins-more : (a b c : ScanState) → BeginsBlocks a b → BeginsBlocks b c → BeginsBlocks a c
-begins-more a b c h k = record {
-  partition_is = k.partition_is ∙ h.partition_is;
-  onward = omega arith;
-  within = k.within;
-}
+begins-more = search rules
 
 -- after a step a scan is still in order: its place, its counts and its partition
 pub step-scan : {o : ScanState} (h : Option (SymbolId × Option ℕ)) (t : Option Turn)
     {x : PartitionScan} (c : Counted) → IsScan o → (t, x) ≡ turn_of o.walk h → IsPlace x
     → AddsTurn t o.wanted c → IsScan (state_of o x c)
 step-scan {o} h (Some (Turn.Gap g)) {x} c sc e pl a =
-    let k = kind o.walk h (Some (Turn.Gap g)) x e in
+    let k = kind _ h _ x e in
     let w = (within-gap h o.wanted sc.place sc.within g x k).1 in
     let within : CountsWithin x c = omega (arith, w, how-all (listed g), listed-length g) in
     record {
@@ -176,19 +167,18 @@ step-scan {o} h (Some (Turn.Gap g)) {x} c sc e pl a =
       partition = (moved-on o.walk h (Some (Turn.Gap g)) x k).0 ∙ sc.partition;
     }
 step-scan {o} h t {x} c sc e pl a =
-    let k = kind o.walk h t x e in
-    let w = within-turn h o.wanted sc.place sc.within t x tt k in
-    record { place = pl; within = rw a w; partition = (moved-on o.walk h t x k).0 ∙ sc.partition }
+    let k = kind _ h t x e in
+    let w = within-turn h _ sc.place sc.within t x tt k in
+    record { place = pl; within = rw a w; partition = (moved-on _ h t x k).0 ∙ sc.partition }
 
 ordered-next : (s : Scanned) (n : SymbolId × Option (Bor (List ℕ))) → CanFollow s (Some n)
     → IsOrdered symbol_id_cmp (shown s.key s.facts ++ (n.0, cell_of n.1) ∷ [])
-ordered-next s n f = subst (IsOrdered symbol_id_cmp) (shown-next s n)
-    (shown-ordered s.key (s.facts ++ next_fact s.key n ∷ []) f)
+ordered-next s n f = subst (IsOrdered symbol_id_cmp) (shown-next s n) (shown-ordered _ _ f)
 
 -- what was counted is the same where no gap was given
 same-counts : (o : ScanState) (s : Scanned) (x : PartitionScan) (c : Counted) → c ≡ o.wanted
     → Scans (record o { walk = x }) s → Scans (state_of o x c) s
-same-counts o s x c a q = subst (λ (c : Counted). Scans (state_of o x c) s) (sym a) q
+same-counts = search rules
 
 passed-end : {o : ScanState} {s : Scanned} {n : SymbolId × Option (Bor (List ℕ))}
     {x : PartitionScan} → Step o s (Some n) (Some Turn.End) x → (c : Counted) → c ≡ o.wanted
@@ -196,7 +186,7 @@ passed-end : {o : ScanState} {s : Scanned} {n : SymbolId × Option (Bor (List �
 passed-end {o} {s} {n} {x} p c a =
     let done = passed-done s n (Some n) s.bytes s.bytes (step-kind p).2 p.scans.done in
     let r = symbol-passed o s n x s.bytes p.scans (keeps-end p) done in
-    (behind-symbol s n s.bytes x, r.0, same-counts o (behind-symbol s n s.bytes x) x c a r.1)
+    (behind-symbol s n s.bytes x, r.0, same-counts o (behind-symbol s n _ x) x c a r.1)
 
 -- a step of a scan, whatever turn it makes
 pub stepped : {o : ScanState} {s : Scanned} (next : Next) (t : Option Turn) {x : PartitionScan}
@@ -234,7 +224,7 @@ stepped (Some (id, None)) (Some Turn.End) p c f a = passed-end p c a
 stepped (Some (id, Some v)) (Some Turn.End) p c f a = passed-end p c a
 
 pub part-of : (o : ScanState) (s : Scanned) → Scans o s → PartOf s
-part-of o s q = by_bytes s.bytes q.done
+part-of o s q = by_bytes _ q.done
   where
     by_bytes : (bytes : Option (List ℕ)) → IfSome bytes (λ b. FitsSoFar s o.walk b)
         → IfSome bytes (λ b. (F before rest : List Fact) → F ≡ before ++ (s.facts ++ rest)

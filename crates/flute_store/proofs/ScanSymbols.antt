@@ -4,7 +4,6 @@ use Rattle.flute_store.proofs.ScanFacts.{ordered-all, coming-all, walks-all, not
 use Rattle.flute_store.proofs.ScanGaps.{Step, step-kind, turns-at, symbols-same}
 use Rattle.std.proofs.Common.{◌≡◌, ℕ, ◌+◌, ◌<◌, true, cond, List, [], ◌∷◌, ◌++◌, length, Option}
 use Rattle.std.proofs.Common.{Some, None, refl, sym, ap, ◌∙◌, subst, inl, inr, arith, append_assoc}
-use Rattle.std.proofs.Common.{append-nil}
 use Rattle.std.proofs.lemmas.Grind.{flat_map-append}
 use Rattle.flute_store.proofs.{Lookups.{Entry}, Runs.{goes_on-tells}, GapSteps.{gaps-end}}
 use Rattle.flute_store.proofs.{KeyLists.{one_is, first_is}}
@@ -15,11 +14,11 @@ use Rattle.flute_store.proofs.Shown.{shown-append, shown-known}
 use Rattle.flute_store.proofs.ScanTurns.{cell_of, shown-told, known-cell, take-symbols, value-more}
 use Rattle.flute_store.proofs.ScanTurns.{value-last}
 use Rattle.flute_store.proofs.Common
-use Common.{Contains, IfSome, option_map, Bor, keys_of, cases_Bool, none-some, same_Some}
+use Common.{Contains, IfSome, option_map, Bor, keys_of, cases_Bool}
 use Common.{Contains-append_cases, Contains-append_right, sorted_tail, IsKnown, value_at, IsOrdered}
 use Common.{EachValue, Cell, One, symbol_id_cmp, symbol_id, ids, fits, SymbolId, Fact, Reason, Gap}
 use Common.{Turn, PartitionScan, runs, one, goes_on, before, gaps, wanted, found_bytes, held_bytes}
-use Common.{walk_of, symbols_left, left, pending, gaps_left, IsWalk, held_after, shown_by, shown}
+use Common.{walk_of, symbols_left, left, pending, gaps_left, IsWalk, held_after, shown}
 use Common.{IsNotWhole, Scanned, next_fact, coming_fact, Follows, PassedNext, value_of, Next}
 use Common.{announced, held_next, ScanState, ComesAs, one_run, FitsSoFar, Scans}
 use Rattle.flute_store.specs.declared.partition_scan.Upcoming.TheVariants as Upcoming
@@ -36,7 +35,7 @@ behind-symbol s n bytes x = record s {
 pub shown-next : (s : Scanned) (n : SymbolId × Option (Bor (List ℕ))) → shown s.key
     (s.facts ++ next_fact s.key n ∷ []) ≡ shown s.key s.facts ++ (n.0, cell_of n.1) ∷ []
 unfolding shown
-shown-next s n = search (rules, shown-append, shown-told)
+shown-next = search (rules, shown-append, shown-told)
 
 -- whatever follows, what is left is the same after the symbol
 abbrev pub KeepsAt : ScanState → Scanned → SymbolId × Option (Bor (List ℕ)) → PartitionScan → Type 0
@@ -47,7 +46,7 @@ KeepsAt o s n x = (more : List Entry) → IsOrdered symbol_id_cmp
 
 pub next-comes : (s : Scanned) (n : SymbolId × Option (Bor (List ℕ))) (more : List Entry)
     → ComesAs s.key (coming_fact s.key (Some n)) ((n.0, cell_of n.1) ∷ more)
-next-comes s n more = (more, ap (λ es. es ++ more) (sym (shown-told s.key n)))
+next-comes s n more = (more, ap (λ es. es ++ more) (sym (shown-told _ n)))
 
 pub symbol-passed : (o : ScanState) (s : Scanned) (n : SymbolId × Option (Bor (List ℕ)))
     (x : PartitionScan) (bytes : Option (List ℕ)) → Scans o (announced s (Some n)) → KeepsAt o s n x
@@ -59,21 +58,16 @@ symbol-passed o s n x bytes q k d = (
     key_is = q.key_is;
     info_is = q.info_is;
     begins =
-        (q.begins.0 ++ next_fact s.key n ∷ [], ap (λ fs. fs ++ next_fact s.key n ∷ []) q.begins.1);
-    walks = λ more r m h.
-        let p : shown s.key (s.facts ++ next_fact s.key n ∷ []) ++ more
-        ≡ shown s.key s.facts ++ ((n.0, cell_of n.1) ∷ more) =
-        ap (λ es. es ++ more) (shown-next s n)
-        ∙ append_assoc (shown s.key s.facts) ((n.0, cell_of n.1) ∷ []) more in
+        (q.begins.0 ++ next_fact _ n ∷ [], ap (λ fs. fs ++ next_fact s.key n ∷ []) q.begins.1);
+    walks = λ more r m h. let p = ap (λ es. es ++ more) (shown-next s n) ∙ append_assoc
+        (shown _ _) ((n.0, cell_of _) ∷ []) more in
         let r' = subst (IsOrdered symbol_id_cmp) p r in
-        let y = k more r' m in
+        let y = k _ r' m in
         record {
           walk = y.0;
-          gaps_are =
-              ap (λ es. runs (wanted s.info es (ids s.info))) p
-              ∙ (q.walks ((n.0, cell_of n.1) ∷ more) r' (known-cell n.1, m)
-              (next-comes s n more)).gaps_are
-              ∙ ap (λ gs. s.given ++ gs) (sym y.1);
+          gaps_are = ap (λ es. runs (wanted s.info es (ids s.info))) p ∙
+              (q.walks _ r' (known-cell _, m) (next-comes s n _)).gaps_are ∙ ap
+              (λ gs. s.given ++ gs) (sym y.1);
         };
     done = d;
     counts = q.counts;
@@ -124,19 +118,19 @@ pub held-same : (es more : List Entry) (xs : List SymbolId) → ((id : SymbolId)
 unfolding held_bytes
 held-same es more [] h = refl
 held-same es more (x ∷ xs) h =
-    let f = h x (first_is x xs) in
+    let f = h x (first_is x _) in
     (λ i. found_bytes ((value-more es more x f.0 f.1 ∙ sym f.1) i) ++ held-same es more xs
-    (λ id c. h id (Contains-append_right (x ∷ []) xs id c)) i)
+    (λ id c. h id (Contains-append_right (x ∷ []) _ _ c)) i)
 
 bytes-both : (es : List Entry) (xs ys : List SymbolId)
     → held_bytes es (xs ++ ys) ≡ held_bytes es xs ++ held_bytes es ys
 unfolding held_bytes
-bytes-both es xs ys = search (rules, flat_map-append, value_at)
+bytes-both = search (rules, flat_map-append, value_at)
 
 one-value : (es : List Entry) (id : SymbolId) (b : List ℕ)
     → value_at symbol_id_cmp es id ≡ Some (One b) → held_bytes es (id ∷ []) ≡ b
 unfolding held_bytes
-one-value es id b h = search rules
+one-value = search rules
 
 -- the symbol is not of the partition, and is passed
 pub passed-done : (s : Scanned) (n : SymbolId × Option (Bor (List ℕ))) (next : Next)
@@ -149,16 +143,16 @@ passed-done s n next (Some b) said {w} {x} e d =
     let more : List Entry = (n.0, cell_of n.1) ∷ [] in
     record {
       done = d.done;
-      all = d.all ∙ ap (λ xs. d.done ++ xs) (sym (symbols-same x w e));
-      held = λ id c. let h = d.held id c in (
+      all = rw (d.all, ← symbols-same x w e);
+      held = λ id c. let h = d.held _ c in (
         h.0,
         ap (λ es. value_at symbol_id_cmp es id) p ∙
-            value-more (shown s.key s.facts) more id (One h.0) h.1,
+            value-more (shown _ _) more id _ h.1,
         h.2,
       );
-      values = d.values ∙ sym (ap (λ es. held_bytes es d.done) p ∙ held-same (shown s.key s.facts)
-          more d.done (λ id c. let h = d.held id c in (One h.0, h.1)));
-      no_run = ap (λ (y : PartitionScan). y.run) e ∙ d.no_run;
+      values = d.values ∙ sym (ap (λ es. held_bytes es d.done) p ∙ held-same _ more _
+          (λ id c. let h = d.held _ c in (One _, h.1)));
+      no_run = rw (e, d.no_run);
       no_gap = d.no_gap;
     }
 
@@ -166,7 +160,7 @@ passed-done s n next (Some b) said {w} {x} e d =
 length-is : (n : SymbolId × Option (Bor (List ℕ))) (here : SymbolId) (k : ℕ)
     → held_next (Some n) ≡ Some (here, Some k)
     → (n.0 ≡ here) × (cell_of n.1 ≡ One (value_of n)) × (length (value_of n) ≡ k)
-length-is x0 x1 x2 x3 = search rules
+length-is = search rules
 
 pub fitting-done : {o : ScanState} {s : Scanned} {n : SymbolId × Option (Bor (List ℕ))}
     {x : PartitionScan} → Step o s (Some n) (Some Turn.Fitting) x → (bytes said : Option (List ℕ)) →
@@ -221,7 +215,7 @@ fitting-done {o} {s} {n} {x} p (Some b) said r d =
 runs-head : (id : SymbolId) (r : Reason) (ws : List (SymbolId × Reason)) → (g : Gap) ×
     (gs : List Gap) × (runs ((id, r) ∷ ws) ≡ g ∷ gs) × (g.sbn ≡ id.sbn) × (g.first ≡ id.esi)
 unfolding runs
-runs-head id r ws = by_gaps (runs ws)
+runs-head id r ws = by_gaps _
   where
     by_gaps : (gaps : List Gap)
         → (g : Gap) × (gs : List Gap) × (before (one (id, r)) gaps ≡ g ∷ gs) × (g.sbn ≡ id.sbn)
@@ -246,7 +240,7 @@ runs-head id r ws = by_gaps (runs ws)
 
 here-is : (n : SymbolId × Option (Bor (List ℕ))) (here : SymbolId) (k : Option ℕ)
     → held_next (Some n) ≡ Some (here, k) → n.0 ≡ here
-here-is n here k e = grind arith
+here-is = grind arith
 
 pub first-wanted : {o : ScanState} {s : Scanned} {n : SymbolId × Option (Bor (List ℕ))}
     {x : PartitionScan} → Step o s (Some n) (Some Turn.Wanted) x → (bytes : Option (List ℕ))

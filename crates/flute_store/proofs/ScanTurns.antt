@@ -1,7 +1,8 @@
 -- What a turn of a scan passes and gives (specs/PartitionScan, specs/Scan).
-use Rattle.std.proofs.Common.{length-append, ◌≡◌, ℕ, ◌+◌, ◌-◌, ◌<◌, cond, List, [], ◌∷◌, ◌++◌}
-use Rattle.std.proofs.Common.{length, Option, Some, None, refl, sym, ap, ◌∙◌, subst, arith}
-use Rattle.flute_store.proofs.Lookups.{Entry, block_from-first, block_from-end, blocks_from-next}
+use Rattle.std.proofs.Common.{rules}
+use Rattle.std.proofs.Common.{length-append, ◌≡◌, ℕ, ◌+◌, ◌-◌, ◌<◌, List, [], ◌∷◌, ◌++◌}
+use Rattle.std.proofs.Common.{length, Option, Some, None, refl, sym, ap, ◌∙◌, arith}
+use Rattle.flute_store.proofs.Lookups.{Entry, block_from-end, blocks_from-next}
 use Rattle.flute_parts.specs.Totality.{symbol_id_total}
 use Rattle.flute_join.proofs.Public.{value_there}
 use Rattle.std.proofs.lemmas.List.FromFn.{length-map-range_with_len}
@@ -10,9 +11,9 @@ use Rattle.flute_store.proofs.HowMany.{how-nil}
 use Rattle.flute_store.proofs.{Runs.{runs-listed}, Turns.{start-walk}, KeyLists.{none_in}}
 use Rattle.flute_store.proofs.Common
 use Common.{flat_map, Bor, none-some, IsKnown, value_at, IsOrdered, Cell, One, Conflict}
-use Common.{Information, sizes, symbol_id_cmp, key_itself, symbol_id, ids, Key, SymbolId, Fact}
+use Common.{Information, sizes, symbol_id_cmp, symbol_id, Key, SymbolId, Fact}
 use Common.{Counted, IsCount, held_bytes, PartitionScan, wants, listed, block_from, blocks_from}
-use Common.{Walk, walk_of, at_start, symbols_left, gaps_left, IsWalk, ShowsNext, after_block}
+use Common.{Walk, walk_of, at_start, symbols_left, gaps_left, ShowsNext, after_block}
 use Common.{shown_by, shown, Scanned, next_fact, coming_fact, at_begin, GaveAll, Next, held_next}
 use Common.{run_length, CountsWithin, ScanState, ComesAs, one_run, Scans}
 
@@ -24,44 +25,39 @@ cell_of (Some bytes) = One bytes.now
 
 pub shown-told : (key : Key) (n : SymbolId × Option (Bor (List ℕ)))
     → shown_by key (next_fact key n) ≡ (n.0, cell_of n.1) ∷ []
-shown-told key (id, Some b) = ap (λ t. cond t ((id, One b.now) ∷ []) []) (key_itself key)
-shown-told key (id, None) = ap (λ t. cond t ((id, Conflict) ∷ []) []) (key_itself key)
+shown-told = search rules
 
 pub known-cell : (v : Option (Bor (List ℕ))) → IsKnown (cell_of v)
-known-cell None = λ e. cc
-known-cell (Some b) = λ e. cc
+known-cell = search rules
 
 pub shows-next : (key : Key) (next : Next) (more : List Entry)
     → ComesAs key (coming_fact key next) more → ShowsNext more (held_next next)
 shows-next key None more h = h
 shows-next key (Some (id, Some b)) more h =
-    (One b.now, h.0, h.1 ∙ ap (λ es. es ++ h.0) (shown-told key (id, Some b)), refl)
+    (One _, h.0, rw (h.1, shown-told key (id, Some b)), refl)
 shows-next key (Some (id, None)) more h =
-    (Conflict, h.0, h.1 ∙ ap (λ es. es ++ h.0) (shown-told key (id, None)), refl)
+    (Conflict, h.0, rw (h.1, shown-told key (id, None)), refl)
 
 -- ---- the symbols that are left
 
 pub length-left : (w : Walk)
     → length (symbols_left w) ≡ (w.size - w.esi) + length (blocks_from w.partition w.begun)
-length-left w = length-append (block_from w.sbn w.esi w.size) (blocks_from w.partition w.begun) ∙ ap
-    (λ k. k + length (blocks_from w.partition w.begun))
-    (length-map-range_with_len (symbol_id w.sbn) w.esi (w.size - w.esi))
+length-left w = rw (length-append (block_from w.sbn w.esi w.size) (blocks_from w.partition w.begun), length-map-range_with_len (symbol_id w.sbn) w.esi (w.size - w.esi))
 
 -- none at the end
 pub end-symbols : (w : PartitionScan) → w.esi ≡ w.size → w.begun ≡ length (sizes w.partition)
     → symbols_left (walk_of w []) ≡ []
-end-symbols w e f = rw (e, block_from-end w.sbn w.size, f, blocks_from-end w.partition)
+end-symbols w e f = rw (e, block_from-end _ _, f, blocks_from-end _)
 
 -- a block that is begun changes none of them
 pub begin-symbols : (w : PartitionScan) → w.esi ≡ w.size → w.begun < length (sizes w.partition)
     → symbols_left (walk_of (after_block w) []) ≡ symbols_left (walk_of w [])
-begin-symbols w e l = rw (e, block_from-end w.sbn w.size, blocks_from-next w.partition w.begun l)
+begin-symbols w e l = rw (e, block_from-end _ _, blocks_from-next _ _ l)
 
 -- the next one is passed
 pub take-symbols : (w : PartitionScan) → w.esi < w.size → symbols_left (walk_of w []) ≡ symbol_id
     w.sbn w.esi ∷ symbols_left (walk_of (record w { esi = w.esi + 1 }) [])
-take-symbols w l =
-    ap (λ xs. xs ++ blocks_from w.partition w.begun) (block_from-first w.sbn w.esi w.size l)
+take-symbols = search rules
 
 -- ---- looking up in what was passed, with one more after it
 
@@ -72,7 +68,7 @@ value-more (e ∷ es) more id c h = grind (arith, value-more es more id c)
 
 pub value-last : (es : List Entry) (e : Entry) → IsOrdered symbol_id_cmp (es ++ e ∷ [])
     → value_at symbol_id_cmp (es ++ e ∷ []) e.0 ≡ Some e.1
-value-last es e r = value_there symbol_id_total es e [] r
+value-last es e r = value_there symbol_id_total _ e [] r
 
 -- ---- the start
 
@@ -81,28 +77,27 @@ pub new-scan : (key : Key) (info : Information) (w : PartitionScan) (c : Counted
     (record { key = key; info = info; walk = w; wanted = c }) (at_begin key info)
 unfolding shown held_bytes
 new-scan key info w c e i =
-    let start : symbols_left (walk_of w []) ≡ ids info =
-    ap symbols_left (e []) ∙ blocks_from-all info in
-    let run : w.run ≡ None = ap (λ (y : Walk). y.run) (e []) in
+    let start = ap symbols_left (e []) ∙ blocks_from-all _ in
+    let run = ap (λ (y : Walk). y.run) (e []) in
     record {
       key_is = refl;
       info_is = refl;
       begins = ([], refl);
       walks = λ more r k h. record {
-        walk = subst IsWalk (sym (e more)) (start-walk info more r k);
-        gaps_are = sym (ap gaps_left (e more) ∙ start-left info more);
+        walk = rw (e more) (start-walk info more r k);
+        gaps_are = sym (ap gaps_left (e _) ∙ start-left _ _);
       };
       done = record {
         done = [];
         all = sym start;
-        held = λ id c. absurd (none_in id c);
+        held = λ id c. absurd (none_in _ c);
         values = refl;
         no_run = run;
         no_gap = refl;
       };
       counts = i;
-      ahead_is =
-          (let z = ap (λ (xs : List SymbolId). length xs) start in let o = ap one_run run in
+      ahead_is = (let z = ap (λ (xs : List SymbolId). length xs) start in
+          let o = ap one_run run in
           omega (arith, z, o));
     }
 
@@ -111,5 +106,4 @@ new-within w c i r = omega (arith, ap run_length r, how-nil)
 
 pub counts-wants : (o : ScanState) (s : Scanned) (F : List Fact) → Scans o s → GaveAll s F
     → IsCount o.wanted (wants F s.key s.info)
-counts-wants o s F q g = subst (IsCount o.wanted)
-    (ap (flat_map listed) (sym g.gaps_are) ∙ runs-listed (wants F s.key s.info)) q.counts
+counts-wants o s F q g = rw (← (ap (flat_map listed) (sym g.gaps_are) ∙ runs-listed (wants F s.key s.info))) q.counts

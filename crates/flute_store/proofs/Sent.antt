@@ -9,7 +9,7 @@ use Rattle.flute_wire.proofs.Public.{cut-fit, cut-ids, cut-joined, cut-one, fact
 use Rattle.flute_wire.proofs.Public.{told-iff}
 use Rattle.flute_store.proofs.Common
 use Common.{flat_map, Contains, filter, AllZip, cases_Bool, Information, IsValid, same_key}
-use Common.{key_itself, address, info_address, symbol_address, fact_at, SameMembers, ids, fits}
+use Common.{key_itself, address, info_address, symbol_address, fact_at, SameMembers, fits}
 use Common.{SymbolId, SymbolPart, Address, Key, Fact, Info, Symbol, Member, Member-from}
 use Common.{Contains-from, facts, Whole, value_bytes, object}
 
@@ -28,13 +28,11 @@ keeps : (p : Fact → Bool) (F : List Fact) (f : Fact) → p f ≡ true → Memb
     → Member f (filter p F)
 unfolding Member
 keeps p [] f passed m = absurd m
-keeps p (g ∷ F) f passed (inl e) = subst (λ b. Member f (cond b (g ∷ filter p F) (filter p F)))
-    (sym (ap p (sym e) ∙ passed)) (inl e)
-keeps p (g ∷ F) f passed (inr m) = elim (cases_Bool (p g)) [
+keeps p (g ∷ F) f passed (inl e) = rw (ap p (sym e) ∙ passed) (inl e)
+keeps p (g ∷ F) f passed (inr m) = elim (cases_Bool _) [
   | inl here ↦ subst (λ b. Member f (cond b (g ∷ filter p F) (filter p F))) (sym here)
       (inr (keeps p F f passed m))
-  | inr gone ↦ subst (λ b. Member f (cond b (g ∷ filter p F) (filter p F))) (sym gone)
-      (keeps p F f passed m)
+  | inr gone ↦ rw gone (keeps p F f passed m)
 ]
 
 -- what is known of the object is what was sent
@@ -49,18 +47,18 @@ holds F key info content v same =
     let test : Fact → Bool = λ f. same_key (address f).key key in
     record {
       told = λ f sent. Contains-from F f (kept test F f
-          (Member-from (filter test F) f ((same f).1 ((told-iff key info content f v).1 sent))));
-      only = λ f c at'. let here : test f ≡ true = ap (λ k. same_key k key) at' ∙ key_itself key in
+          (Member-from _ f ((same f).1 ((told-iff key info content f v).1 sent))));
+      only = λ f c at'. let here = ap (λ k. same_key k key) at' ∙ key_itself key in
           (told-iff key info content f v).0
-          ((same f).0 (Contains-from (filter test F) f (keeps test F f here (Member-from F f c))));
+          ((same f).0 (Contains-from _ f (keeps _ F f here (Member-from F f c))));
     }
 
 module _ (F : List Fact) (key : Key) (info : Information) (content : List ℕ)
     (h : Holds F key info content) where
   info_there : fact_at F (info_address key) ≡ Some (Info key info)
   info_there =
-      fact_at-one F (info_address key) (Info key info) (h.told (Info key info) (inl refl)) refl
-      (λ g c at'. only_info g (h.only g c (ap (λ (a : Address). a.key) at')) at')
+      fact_at-one F _ _ (h.told _ (inl refl)) refl
+      (λ g c at'. only_info g (h.only g c (ap (λ a. a.key) at')) at')
     where
       only_info : (g : Fact) → IsSent key info (symbols_of info content) g
           → address g ≡ info_address key → g ≡ Info key info
@@ -71,9 +69,9 @@ module _ (F : List Fact) (key : Key) (info : Information) (content : List ℕ)
   symbol_there : (s : SymbolId × List ℕ) → Contains (symbols_of info content) s
       → fact_at F (symbol_address key s.0) ≡ Some (Symbol key s.0 s.1)
   symbol_there s there =
-      fact_at-one F (symbol_address key s.0) (Symbol key s.0 s.1)
-      (h.told (Symbol key s.0 s.1) (inr (s, there, refl))) refl
-      (λ g c at'. only_symbol g (h.only g c (ap (λ (a : Address). a.key) at')) at')
+      fact_at-one F _ _
+      (h.told _ (inr (s, there, refl))) refl
+      (λ g c at'. only_symbol g (h.only g c (ap (λ a. a.key) at')) at')
     where
       only_symbol : (g : Fact) → IsSent key info (symbols_of info content) g
           → address g ≡ symbol_address key s.0 → g ≡ Symbol key s.0 s.1
@@ -98,14 +96,14 @@ module _ (F : List Fact) (key : Key) (info : Information) (content : List ℕ)
   is_whole : IsValid info → length content ≡ info.transfer_length → Whole F key info
   is_whole v whole = record {
     information = info_there;
-    each = λ id c. let s = sent_as (symbols_of info content) id
-        (subst (λ xs. Contains xs id) (sym (cut-ids info content)) c) in record {
+    each = λ id c. let s = sent_as _ _
+        (subst (λ xs. Contains xs id) (sym (cut-ids _ content)) c) in record {
           bytes = s.0.1;
           value = subst
               (λ (x : SymbolId). fact_at F (symbol_address key x) ≡ Some (Symbol key x s.0.1))
-              s.2 (symbol_there s.0 s.1);
+              s.2 (symbol_there _ s.1);
           fitting = subst (λ (x : SymbolId). fits info x (length s.0.1) ≡ true) s.2
-              (cut-fit info content s.0 v whole s.1);
+              (cut-fit _ content _ v whole s.1);
         };
   }
 
@@ -115,18 +113,16 @@ module _ (F : List Fact) (key : Key) (info : Information) (content : List ℕ)
   agree [] each = refl
   agree (s ∷ ss) each =
       let one = ap value_bytes (each s (0, omega arith, refl)) in
-      let rest = agree ss (λ t c. each t (suc c.0, omega (arith, c.1), c.2)) in
+      let rest = agree ss (λ t c. each t (suc _, omega (arith, c.1), c.2)) in
       λ i. one i ++ rest i
 
   is_object : IsValid info → length content ≡ info.transfer_length → object F key info ≡ content
   unfolding object
   is_object v whole =
-      let by_id = λ (id : SymbolId). value_bytes (fact_at F (symbol_address key id)) in
-      let joined : flat_map by_id (ids info) ≡ content = ap (flat_map by_id)
-      (sym (cut-ids info content)) ∙ flat_map-map by_id (λ s. s.0) (symbols_of info content) ∙ agree
-      (symbols_of info content) symbol_there ∙ cut-joined info content v whole in ap
-      (take info.transfer_length) joined ∙ take_all info.transfer_length content
-      (omega (arith, whole))
+      let by_id = λ (id : SymbolId). value_bytes (fact_at F _) in
+      let joined = ap (flat_map _) (sym (cut-ids _ _)) ∙ flat_map-map by_id (λ s. s.0)
+      (symbols_of _ _) ∙ agree _ symbol_there ∙ cut-joined _ _ v whole in ap (take _) joined ∙
+      take_all _ _ (omega (arith, whole))
 
 pub datagrams_give_the_object : (F : List Fact) (key : Key) {info : Information} (content : List ℕ)
     (datagrams : List (List ℕ)) → IsValid info → length content ≡ info.transfer_length → AllZip
@@ -134,7 +130,7 @@ pub datagrams_give_the_object : (F : List Fact) (key : Key) {info : Information}
     (flat_map (facts key.session.sender) datagrams) → Whole F key info ×
     (object F key info ≡ content)
 datagrams_give_the_object F key {info = info} content datagrams v whole written same =
-    let sent : SameMembers (facts_at_key key F) (facts_sent key info content) = subst
-    (SameMembers (facts_at_key key F)) (facts_are_sent key info content datagrams written) same in
-    let h = holds F key info content v sent in
-    (is_whole F key info content h v whole, is_object F key info content h v whole)
+    let sent = subst
+    (SameMembers (facts_at_key key F)) (facts_are_sent key info content _ written) same in
+    let h = holds F _ _ _ v sent in
+    (is_whole F _ _ _ h v whole, is_object F _ _ _ h v whole)

@@ -1,4 +1,5 @@
 -- The symbols that rising facts show of an object (specs/Shown).
+use Rattle.std.proofs.Common.{rules}
 use Rattle.std.proofs.Common.{◌≡◌, ℕ, Bool, cond, List, [], ◌∷◌, ◌++◌, Some, refl, sym, ap, ◌∙◌}
 use Rattle.std.proofs.Common.{subst, inl, inr, append_assoc}
 use Rattle.flute_parts.proofs.Public.{fact_at-after}
@@ -8,15 +9,14 @@ use Rattle.flute_store.proofs.Common
 use Common.{AllByRecursion, IsStrictlySortedBy, keys_of, Equal, is_eq, ordering_then, Equal-is}
 use Common.{cases_Bool, false≢true, IsKnown, value_at, IsOrdered, EachValue, Cell, One, Conflict}
 use Common.{symbol_address, address, fact_at, IsRising, StandAfter, key_cmp, symbol_id_cmp}
-use Common.{address_cmp, same_key, key_same, key_itself, symbol_id_place, Key, SymbolId, Address}
+use Common.{address_cmp, same_key, symbol_id_place, Key, SymbolId}
 use Common.{Fact, Info, InfoConflict, Symbol, SymbolConflict, fact_at-nil, fact_at-here}
 use Common.{fact_at-elsewhere, symbol_id_itself, symbol_fact, shown_by, shown}
 
 pub shown-append : (key : Key) (F G : List Fact) → shown key (F ++ G) ≡ shown key F ++ shown key G
 unfolding shown
 shown-append key [] G = refl
-shown-append key (f ∷ F) G = ap (λ es. shown_by key f ++ es) (shown-append key F G) ∙ sym
-    (append_assoc (shown_by key f) (shown key F) (shown key G))
+shown-append key (f ∷ F) G = rw (shown-append key F G, ← append_assoc (shown_by key f) (shown key F) (shown key G))
 
 -- ---- what a fact shows
 
@@ -24,30 +24,27 @@ shown-append key (f ∷ F) G = ap (λ es. shown_by key f ++ es) (shown-append ke
 shown-if : (key k : Key) (id : SymbolId) (c : Cell (List ℕ)) (P : List Entry → Type 0)
     → ((k ≡ key → ⊥) → P []) → (k ≡ key → P ((id, c) ∷ []))
     → P (cond (same_key k key) ((id, c) ∷ []) [])
-shown-if key k id c P n s = elim (cases_Bool (same_key k key)) [
-  | inl t ↦ rw t (s (key_same k key t))
-  | inr t ↦ rw t (n (λ e. false≢true (sym t ∙ ap (λ k. same_key k key) e ∙ key_itself key)))
-]
+shown-if = search rules
 
 shown-cases : (key : Key) (f : Fact) (P : List Entry → Type 0) →
     (((id : SymbolId) → address f ≡ symbol_address key id → ⊥) → P []) → ((id : SymbolId)
     (c : Cell (List ℕ)) → IsKnown c → address f ≡ symbol_address key id → Some f ≡ symbol_fact key
     id (Some c) → P ((id, c) ∷ [])) → P (shown_by key f)
-shown-cases key (Info k i) P n s = n (λ id. not_symbol k key id)
-shown-cases key (InfoConflict k) P n s = n (λ id. not_symbol k key id)
-shown-cases key (Symbol k id b) P n s = shown-if key k id (One b) P
-    (λ d. n (λ j e. d (ap (λ (a : Address). a.key) e))) (λ e. s id (One b) (λ z. cc)
+shown-cases key (Info k i) P n s = n (λ id. not_symbol k _ _)
+shown-cases key (InfoConflict k) P n s = n (λ id. not_symbol k _ _)
+shown-cases key (Symbol k id b) P n s = shown-if _ k _ _ P
+    (λ d. n (λ j e. d (ap (λ a. a.key) e))) (λ e. s id (One b) (λ z. cc)
     (ap (λ k. symbol_address k id) e) (ap (λ k. Some (Symbol k id b)) e))
-shown-cases key (SymbolConflict k id) P n s = shown-if key k id Conflict P
-    (λ d. n (λ j e. d (ap (λ (a : Address). a.key) e))) (λ e. s id Conflict (λ z. cc)
+shown-cases key (SymbolConflict k id) P n s = shown-if _ k _ _ P
+    (λ d. n (λ j e. d (ap (λ a. a.key) e))) (λ e. s id Conflict (λ z. cc)
     (ap (λ k. symbol_address k id) e) (ap (λ k. Some (SymbolConflict k id)) e))
 
 pub shown-none : (key : Key) (F : List Fact) → AllByRecursion (λ f. (address f).key ≡ key → ⊥) F
     → shown key F ≡ []
 unfolding shown
 shown-none key [] n = refl
-shown-none key (f ∷ F) n = ap (λ es. es ++ shown key F) (shown-cases key f (λ es. es ≡ [])
-    (λ _. refl) (λ id c k e g. absurd (n.0 (ap (λ (a : Address). a.key) e)))) ∙ shown-none key F n.1
+shown-none key (f ∷ F) n = ap (λ es. es ++ shown key F) (shown-cases _ f (λ es. es ≡ [])
+    (λ _. refl) (λ id c k e g. absurd (n.0 (ap (λ a. a.key) e)))) ∙ shown-none _ F n.1
 
 -- ---- all that is shown is known, and in order
 
@@ -55,19 +52,19 @@ pub shown-known : (key : Key) (F : List Fact) → EachValue IsKnown (shown key F
 unfolding shown
 shown-known key [] = tt
 shown-known key (f ∷ F) =
-    let rest = shown-known key F in
+    let rest = shown-known _ F in
     shown-cases key f (λ es. EachValue IsKnown (es ++ shown key F)) (λ _. rest)
     (λ id c k e g. (k, rest))
 
 pub equal_keys : (key : Key) → key_cmp key key ≡ Equal
-equal_keys key = (Equal-is (key_cmp key key)).0 (key_itself key)
+equal_keys = search rules
 
 above-shown : (key : Key) (id : SymbolId) (F : List Fact) → StandAfter (symbol_address key id) F
     → Above id (keys_of (shown key F))
 unfolding shown
 above-shown key id [] s = tt
 above-shown key id (f ∷ F) s =
-    let rest = above-shown key id F s.1 in
+    let rest = above-shown _ _ F s.1 in
     shown-cases key f (λ es. Above id (keys_of (es ++ shown key F))) (λ _. rest) (λ j c k e g. let
     first = ap (λ o. ordering_then o (symbol_id_cmp id j)) (equal_keys key) in
     (sym first ∙ ap (address_cmp (symbol_address key id)) (sym e) ∙ s.0, rest))
@@ -76,7 +73,7 @@ pub shown-ordered : (key : Key) (F : List Fact) → IsRising F → IsOrdered sym
 unfolding shown IsStrictlySortedBy
 shown-ordered key [] r = tt
 shown-ordered key (f ∷ F) r =
-    let rest = shown-ordered key F r.1 in
+    let rest = shown-ordered _ F r.1 in
     shown-cases key f (λ es. IsOrdered symbol_id_cmp (es ++ shown key F)) (λ _. rest)
     (λ id c k e g. (above-shown key id F (subst (λ a. StandAfter a F) e r.0), rest))
 
@@ -85,26 +82,26 @@ shown-ordered key (f ∷ F) r =
 pub shown-at : (key : Key) (id : SymbolId) (F : List Fact) → IsRising F → fact_at F
     (symbol_address key id) ≡ symbol_fact key id (value_at symbol_id_cmp (shown key F) id)
 unfolding shown
-shown-at key id [] r = fact_at-nil (symbol_address key id)
+shown-at key id [] r = fact_at-nil _
 shown-at key id (f ∷ F) r =
     let a = symbol_address key id in
-    let rest = shown-at key id F r.1 in
+    let rest = shown-at _ _ F r.1 in
     shown-cases key f (λ es. fact_at (f ∷ F) a
     ≡ symbol_fact key id (value_at symbol_id_cmp (es ++ shown key F) id))
-    (λ n. fact_at-elsewhere f F a (not_same (address f) a (n id)) ∙ rest)
+    (λ n. fact_at-elsewhere f F a (not_same _ a (n _)) ∙ rest)
     (λ j c k e g.
     let looked =
     λ (b : Bool). symbol_fact key id
     (cond b (Some c) (value_at symbol_id_cmp (shown key F) id)) in
-    elim (cases_Bool (is_eq (symbol_id_cmp id j))) [
+    elim (cases_Bool (is_eq _)) [
       | inl t ↦
-          let p : id ≡ j = symbol_id_place id j ((Equal-is (symbol_id_cmp id j)).0 t) in
-          subst (λ x. fact_at (f ∷ F) x ≡ Some f) (e ∙ ap (symbol_address key) (sym p))
-          (fact_at-here f F (fact_at-after (address f) F r.0))
+          let p = symbol_id_place id j ((Equal-is (symbol_id_cmp id j)).0 t) in
+          subst (λ x. fact_at (f ∷ F) x ≡ Some f) (e ∙ ap (symbol_address _) (sym p))
+          (fact_at-here f F (fact_at-after _ F r.0))
           ∙ g ∙ ap (λ i. symbol_fact key i (Some c)) (sym p) ∙ ap looked (sym t)
       | inr t ↦
           fact_at-elsewhere f F a
-          (not_same (address f) a (λ q.
+          (not_same _ a (λ q.
           false≢true (sym t
           ∙ ap (λ x. is_eq (symbol_id_cmp id x)) (same_id key key j id (sym e ∙ q))
           ∙ symbol_id_itself id)))

@@ -1,22 +1,20 @@
 -- The content of the join of two stores is the join of their contents (specs/ObjectJoin).
-use Rattle.std.proofs.Common.{arith}
-use Rattle.std.proofs.lemmas.Grind.{common_steps}
 use Rattle.std.proofs.Common.{rules}
 use Rattle.flute_store.proofs.FactEntries.{Apart, Elsewhere, elsewhere-none, each-append}
-use Rattle.flute_store.proofs.FactEntries.{each-flat_map, cell-stands, at-cell_join, session_keys}
+use Rattle.flute_store.proofs.FactEntries.{each-flat_map, at-cell_join, session_keys}
 use Rattle.flute_store.proofs.FactEntries.{object_keys, symbol_keys, at-map_join}
-use Rattle.std.proofs.Common.{◌≡◌, List, [], ◌∷◌, ◌++◌, Some, None, refl, sym, ap, ◌∙◌, subst, ℕ}
-use Rattle.std.proofs.Common.{append-nil, Option}
-use Rattle.std.specs.Prelude.{bytes_eq, ◌&&◌}
+use Rattle.std.proofs.Common.{◌≡◌, List, [], ◌∷◌, ◌++◌, None, refl, sym, ap, ℕ}
+use Rattle.std.proofs.Common.{Option}
+use Rattle.std.specs.Prelude.{bytes_eq}
 use Rattle.flute_store.proofs.Common
 use Common.{Address, Fact, fact_at, joined, joined-none, fact_at-append, cell_join, IsOrdered}
 use Common.{EachValue, ordered-map_join, Cell, session_total, object_total, symbol_id_total}
-use Common.{Session, ObjectName, Key, SymbolId, Part, InfoPart, SymbolPart, Info, Symbol}
-use Common.{Information, session_cmp, object_cmp, symbol_id_cmp, same_symbol_id, info_address}
+use Common.{Session, ObjectName, Key, SymbolId, Part, InfoPart, SymbolPart}
+use Common.{Information, session_cmp, object_cmp, symbol_id_cmp, info_address}
 use Common.{symbol_address, Same, Below, same_information, key_itself, symbol_id_itself}
 use Common.{Below-trans, Below-from_Same, Same-sym, IsBelow, EachValue-map_join, Object}
 use Common.{object_join, symbols_join, session_join, store_join, key_in, info_cell_facts}
-use Common.{symbol_cell_facts, symbols_facts, object_facts, session_facts, content, IsObject}
+use Common.{symbol_cell_facts, symbols_facts, object_facts, session_facts, content}
 use Common.{IsSession, IsStore, IsStrictlySortedBy, SymbolUpdate, Update, update_symbols}
 use Common.{update_object, update_facts}
 
@@ -24,38 +22,35 @@ use Common.{update_object, update_facts}
 
 elsewhere-info : (a : Address) (key : Key) → (info_address key ≡ a → ⊥) → (c : Cell Information)
     → Elsewhere a (info_cell_facts key c)
-elsewhere-info a key h c = search rules
+elsewhere-info = search rules
 
 elsewhere-symbol : (a : Address) (key : Key) (id : SymbolId) → (symbol_address key id ≡ a → ⊥)
     → (c : Cell (List ℕ)) → Elsewhere a (symbol_cell_facts key id c)
-elsewhere-symbol a key id h c = search rules
+elsewhere-symbol = search rules
 
 info-join : (key : Key) (c d : Cell Information)
     → fact_at (info_cell_facts key (cell_join same_information c d)) (info_address key)
     ≡ joined (info_address key) (fact_at (info_cell_facts key c) (info_address key))
     (fact_at (info_cell_facts key d) (info_address key))
-info-join key = at-cell_join (Info key) (info_address key) same_information (λ v. refl) refl
-    (λ v w. ap (λ b. b && same_information v w) (key_itself key))
+info-join key = at-cell_join _ _ _ (λ v. refl) refl (λ v w. rw (key_itself key))
 
 symbol-join : (key : Key) (id : SymbolId) (c d : Cell (List ℕ))
     → fact_at (symbol_cell_facts key id (cell_join bytes_eq c d)) (symbol_address key id)
     ≡ joined (symbol_address key id) (fact_at (symbol_cell_facts key id c) (symbol_address key id))
     (fact_at (symbol_cell_facts key id d) (symbol_address key id))
-symbol-join key id =
-    at-cell_join (Symbol key id) (symbol_address key id) bytes_eq (λ v. refl) refl
-    (λ v w. ap (λ b. b && (same_symbol_id id id && bytes_eq v w)) (key_itself key)
-    ∙ ap (λ b. b && bytes_eq v w) (symbol_id_itself id))
+symbol-join key id = at-cell_join _ _ _ (λ v. refl) refl
+    (λ v w. rw (key_itself key, symbol_id_itself id))
 
 -- ---- the symbols of an object
 
 not_info : (key l : Key) (id : SymbolId) → symbol_address key id ≡ info_address l → ⊥
-not_info key l id p = search rules
+not_info = search rules
 
 pub not_symbol : (key l : Key) (id : SymbolId) → info_address key ≡ symbol_address l id → ⊥
-not_symbol key l id p = search rules
+not_symbol = search rules
 
 pub same_id : (key l : Key) (i j : SymbolId) → symbol_address key i ≡ symbol_address l j → i ≡ j
-same_id key l i j p = search rules
+same_id = search rules
 
 any_cell : (es : List (SymbolId × Cell (List ℕ))) → EachValue (λ _. Unit {0}) es
 any_cell [] = tt
@@ -66,30 +61,29 @@ entry_facts key e = symbol_cell_facts key e.0 e.1
 
 pub symbols_apart : (key : Key) (id : SymbolId) (e : SymbolId × Cell (List ℕ)) → (id ≡ e.0 → ⊥)
     → Elsewhere (symbol_address key id) (entry_facts key e)
-symbols_apart key id e h = search rules
+symbols_apart = search rules
 
 symbols-join : (key : Key) (id : SymbolId) (es fs : List (SymbolId × Cell (List ℕ)))
     → IsOrdered symbol_id_cmp es → IsOrdered symbol_id_cmp fs
     → fact_at (symbols_facts key (symbols_join es fs)) (symbol_address key id)
     ≡ joined (symbol_address key id) (fact_at (symbols_facts key es) (symbol_address key id))
     (fact_at (symbols_facts key fs) (symbol_address key id))
-symbols-join key id es fs s t = at-map_join symbol_keys (entry_facts key) (symbol_address key id) id
-    (symbols_apart key id) (cell_join bytes_eq) {P = λ _. Unit {0}}
-    (λ v w x y. symbol-join key id v w)
-    (record { first = s; second = t; first_each = any_cell es; second_each = any_cell fs })
+symbols-join key id es fs s t = at-map_join symbol_keys _ _ _ (symbols_apart _ _) _
+    (λ v w x y. symbol-join _ _ v w)
+    (record { first = s; second = t; first_each = any_cell _; second_each = any_cell _ })
 
 symbols-info : (key : Key) (es : List (SymbolId × Cell (List ℕ)))
     → fact_at (symbols_facts key es) (info_address key) ≡ None
-symbols-info key es = search (rules, elsewhere-none, each-flat_map, elsewhere-symbol, not_info)
+symbols-info = search (rules, elsewhere-none, each-flat_map, elsewhere-symbol, not_info)
 
 info-symbol : (key : Key) (id : SymbolId) (c : Cell Information)
     → fact_at (info_cell_facts key c) (symbol_address key id) ≡ None
-info-symbol key id c = search (rules, elsewhere-none, elsewhere-info, not_symbol)
+info-symbol = search (rules, elsewhere-none, elsewhere-info, not_symbol)
 
 pub EachValue-weaker : {K X : Type 0} (P Q : X → Type 0) → ((x : X) → P x → Q x)
     → (es : List (K × X)) → EachValue P es → EachValue Q es
 EachValue-weaker P Q h [] a = tt
-EachValue-weaker P Q h (e ∷ es) a = (h e.1 a.0, EachValue-weaker P Q h es a.1)
+EachValue-weaker P Q h (e ∷ es) a = (h _ a.0, EachValue-weaker P Q h es a.1)
 
 module _ {n : ℕ} where
   -- the keys ascend at each level
@@ -106,30 +100,28 @@ module _ {n : ℕ} where
 
   pub ordered-session : (o : ℕ) (objects : List (ObjectName × Object n)) → IsSession o objects
       → OrderedSession objects
-  ordered-session o objects p = search (rules, EachValue-weaker)
+  ordered-session = search (rules, EachValue-weaker)
 
   pub ordered-store : (s o : ℕ) (m : List (Session × List (ObjectName × Object n))) → IsStore s o m
       → OrderedStore m
-  ordered-store s o m p = search (rules, EachValue-weaker, ordered-session)
+  ordered-store = search (rules, EachValue-weaker, ordered-session)
 
   object_ordered : (v w : Object n) → OrderedObject v → OrderedObject w
       → OrderedObject (object_join v w)
-  object_ordered v w p q =
-      ordered-map_join symbol_id_total (cell_join bytes_eq) v.symbols w.symbols p q
+  object_ordered v w p q = ordered-map_join symbol_id_total _ _ _ p q
 
   session_ordered : (v w : List (ObjectName × Object n)) → OrderedSession v → OrderedSession w
       → OrderedSession (session_join v w)
   session_ordered v w p q = record {
-    ordered = ordered-map_join object_total object_join v w p.ordered q.ordered;
-    each = EachValue-map_join object_cmp object_join OrderedObject object_ordered v w p.each q.each;
+    ordered = ordered-map_join object_total _ v w p.ordered q.ordered;
+    each = EachValue-map_join _ _ _ object_ordered v w p.each q.each;
   }
 
   pub store_ordered : (v w : List (Session × List (ObjectName × Object n))) → OrderedStore v
       → OrderedStore w → OrderedStore (store_join v w)
   store_ordered v w p q = record {
-    ordered = ordered-map_join session_total session_join v w p.ordered q.ordered;
-    each = EachValue-map_join session_cmp session_join OrderedSession session_ordered v w p.each
-        q.each;
+    ordered = ordered-map_join session_total _ v w p.ordered q.ordered;
+    each = EachValue-map_join _ _ _ session_ordered v w p.each q.each;
   }
 
   abbrev pub in_session : Session → ObjectName × Object n → List Fact
@@ -142,11 +134,11 @@ module _ {n : ℕ} where
   -- ---- an object
   pub object-info : (key : Key) (x : Object n) → fact_at (object_facts key x) (info_address key) ≡
       fact_at (info_cell_facts key x.info) (info_address key)
-  object-info key x = search (rules, fact_at-append, symbols-info, joined-none)
+  object-info = search (rules, fact_at-append, symbols-info, joined-none)
 
   pub object-symbol : (key : Key) (id : SymbolId) (x : Object n) → fact_at (object_facts key x)
       (symbol_address key id) ≡ fact_at (symbols_facts key x.symbols) (symbol_address key id)
-  object-symbol key id x = search (rules, fact_at-append, info-symbol)
+  object-symbol = search (rules, fact_at-append, info-symbol)
 
   object-join : (key : Key) (part : Part) (v w : Object n) → OrderedObject v → OrderedObject w →
       fact_at (object_facts key (object_join v w)) (record { key = key; part = part }) ≡ joined
@@ -160,21 +152,20 @@ module _ {n : ℕ} where
       → Elsewhere a (object_facts key x)
   elsewhere-object a key h x =
       each-append (Apart a) (info_cell_facts key x.info) (symbols_facts key x.symbols)
-      (elsewhere-info a key (λ p. h (ap (λ (b : Address). b.key) p)) x.info)
+      (elsewhere-info a key (λ p. h (ap (λ b. b.key) p)) x.info)
       (each-flat_map (Apart a) (entry_facts key)
       (λ e. elsewhere-symbol a key e.0 (λ p. h (ap (λ (b : Address). b.key) p)) e.1) x.symbols)
 
   -- ---- a session
   pub objects_apart : (a : Address) (e : ObjectName × Object n) → (a.key.object ≡ e.0 → ⊥)
       → Elsewhere a (in_session a.key.session e)
-  objects_apart a e h = elsewhere-object a (key_in a.key.session e.0)
-      (λ p. h (sym (ap (λ (k : Key). k.object) p))) e.1
+  objects_apart a e h = elsewhere-object a (key_in _ _) (λ p. h (sym (ap (λ k. k.object) p))) e.1
 
   session-join : (a : Address) (v w : List (ObjectName × Object n)) → OrderedSession v →
       OrderedSession w → fact_at (session_facts a.key.session (session_join v w)) a ≡ joined a
       (fact_at (session_facts a.key.session v) a) (fact_at (session_facts a.key.session w) a)
-  session-join a v w p q = at-map_join object_keys (in_session a.key.session) a a.key.object
-      (objects_apart a) object_join (object-join a.key a.part)
+  session-join a v w p q = at-map_join object_keys _ a a.key.object
+      (objects_apart a) _ (object-join _ _)
       (record { first = p.ordered; second = q.ordered; first_each = p.each; second_each = q.each })
 
   elsewhere-session : (a : Address) (session : Session) → (session ≡ a.key.session → ⊥)
@@ -191,41 +182,41 @@ module _ {n : ℕ} where
   store-join : (v w : List (Session × List (ObjectName × Object n))) → OrderedStore v → OrderedStore
       w → (a : Address) → fact_at (content (store_join v w)) a ≡ joined a (fact_at (content v) a)
       (fact_at (content w) a)
-  store-join v w p q a = at-map_join session_keys in_store a a.key.session (sessions_apart a)
-      session_join (session-join a)
+  store-join v w p q a = at-map_join session_keys _ a a.key.session (sessions_apart a)
+      _ (session-join a)
       (record { first = p.ordered; second = q.ordered; first_each = p.each; second_each = q.each })
 
   -- the content of a join has the values of both contents together
   pub content-join : (v w : List (Session × List (ObjectName × Object n))) → OrderedStore v
       → OrderedStore w → Same (content (store_join v w)) (content v ++ content w)
-  content-join v w p q = search (rules, store-join, fact_at-append, content)
+  content-join = search (rules, store-join, fact_at-append, content)
 
   -- the content of a lower store is below
   pub content-below : (v w : List (Session × List (ObjectName × Object n))) → OrderedStore v
       → OrderedStore w → IsBelow store_join v w → Below (content v) (content w)
-  content-below v w p q b = search (rules, content, Same-sym, content-join)
+  content-below = search (rules, content, Same-sym, content-join)
 
   pub content-below_join : (u v w : List (Session × List (ObjectName × Object n))) → OrderedStore u
       → OrderedStore v → OrderedStore w → IsBelow store_join u (store_join v w)
       → Below (content u) (content v ++ content w)
-  content-below_join u v w o p q b = Below-trans (content u) (content (store_join v w))
-      (content v ++ content w) (content-below u (store_join v w) o (store_ordered v w p q) b)
-      (Below-from_Same (content (store_join v w)) (content v ++ content w) (content-join v w p q))
+  content-below_join u v w o p q b = Below-trans _ (content (store_join v w))
+      _ (content-below u _ o (store_ordered v w p q) b)
+      (Below-from_Same (content (store_join v w)) _ (content-join v w p q))
 
 -- ---- the store of one object
 
 pub told-ordered : (o : Option (SymbolId × SymbolUpdate))
     → IsOrdered symbol_id_cmp (update_symbols o)
 unfolding IsStrictlySortedBy
-told-ordered x0 = search rules
+told-ordered = search rules
 
 abbrev pub one_object : (n : ℕ) → Key → Update → List (Session × List (ObjectName × Object n))
 one_object n key update = (key.session, (key.object, update_object update) ∷ []) ∷ []
 
 pub one-ordered : (n : ℕ) (key : Key) (update : Update) → OrderedStore (one_object n key update)
 unfolding IsStrictlySortedBy
-one-ordered n key update = search rules
+one-ordered = search rules
 
 pub one-content : (n : ℕ) (key : Key) (update : Update)
     → content (one_object n key update) ≡ update_facts key update
-one-content n key update = search rules
+one-content = search rules

@@ -1,6 +1,7 @@
 -- An object and the facts of the store's content: its symbols, and what is wanted of it.
+use Rattle.std.proofs.Common.{rules}
 use Rattle.std.proofs.Common.{◌≡◌, ◌≢◌, ℕ, List, false, Option, Some, None, refl, sym, ap, ◌∙◌}
-use Rattle.std.proofs.Common.{subst, ◌↔◌, ◌+◌, length, arith}
+use Rattle.std.proofs.Common.{◌↔◌, ◌+◌, length, arith}
 use Rattle.std.specs.Ordering.{eq_by_cmp}
 use Rattle.flute_store.specs.GapsLeft.{GapsLeft}
 use Rattle.std.proofs.lemmas.Cmp.{eq_by_cmp_equiv}
@@ -10,13 +11,13 @@ use Rattle.flute_store.{specs.GapAnswers.{GivesGaps}, proofs.Lookups.{blocks_fro
 use Rattle.flute_store.proofs.Common
 use Common.{Contains, Equal-is, keys_of, IsKnown, value_at, Cell, each-value_at, false≢true, Gap}
 use Common.{symbol_address, fact_at, symbol_id_cmp, symbol_id_place, symbol_id_total, Key, SymbolId}
-use Common.{Fact, Object, symbol_fact, IsTold, filter_map, option_map, IsStrictlySortedBy}
-use Common.{info_address, One, Information, sizes, ids, Info, InfoConflict, want, wants, runs}
-use Common.{want_cell, with_reason, wanted, cell_fact, at_start, left, gaps_left}
+use Common.{Fact, Object, symbol_fact, IsTold}
+use Common.{info_address, One, Information, sizes, ids, Info, want, wants, runs}
+use Common.{want_cell, wanted, at_start, left, gaps_left}
 
 pub ids_told : {n : ℕ} (F : List Fact) (key : Key) (x : Object n) → IsTold F key x → (id : SymbolId)
     → Contains (keys_of x.symbols) id ↔ (fact_at F (symbol_address key id) ≢ None)
-ids_told F key x t id = by_found (value_at symbol_id_cmp x.symbols id) refl
+ids_told F key x t id = by_found _ refl
   where
     by_found : (found : Option (Cell (List ℕ))) → value_at symbol_id_cmp x.symbols id ≡ found
         → Contains (keys_of x.symbols) id ↔ (fact_at F (symbol_address key id) ≢ None)
@@ -36,25 +37,23 @@ ids_told F key x t id = by_found (value_at symbol_id_cmp x.symbols id) refl
 
 pub want-symbol : (info : Information) (key : Key) (id : SymbolId) (found : Option (Cell (List ℕ)))
     → want info id (symbol_fact key id found) ≡ want_cell info id found
-want-symbol info key id (Some (One b)) = refl
-want-symbol info key id found = refl
+want-symbol = search rules
 
 -- what is wanted of an object follows from its held symbols
 pub wants-told : {n : ℕ} (F : List Fact) (key : Key) (x : Object n) (info : Information)
     → IsTold F key x → wants F key info ≡ wanted info x.symbols (ids info)
 unfolding wants wanted
-wants-told F key x info t = λ i. filter_map (λ id. option_map (with_reason id) ((ap (want info id)
-    (t.each id) ∙ want-symbol info key id (value_at symbol_id_cmp x.symbols id)) i)) (ids info)
+wants-told = search rules
 
 -- a walk begins with all symbols of the partition
 pub start-left : (info : Information) (held : List (SymbolId × Cell (List ℕ)))
     → gaps_left (at_start info held) ≡ runs (wanted info held (ids info))
 unfolding left
-start-left info held = ap (λ xs. runs (wanted info held xs)) (blocks_from-all info)
+start-left info held = rw (blocks_from-all info)
 
 pub told-information : {n : ℕ} (F : List Fact) (key : Key) (x : Object n) (info : Information)
     → IsTold F key x → x.info ≡ One info → fact_at F (info_address key) ≡ Some (Info key info)
-told-information F key x info t e = t.info ∙ ap (cell_fact (Info key) (InfoConflict key)) e
+told-information = search rules
 
 -- the facts give an object this one information and the symbols that are held, whose gaps these
 -- are
@@ -80,16 +79,14 @@ pub gives-gaps : {n : ℕ} {F : List Fact} {key : Key} {x : Object n} {info : In
     → Begins info held g → GivesGaps F key g
 gives-gaps {n} {F} {key} {x} {info} {held} g t b =
     let told = t.told in
-    let k : g.held ≡ keys_of x.symbols = b.held_is ∙ ap keys_of t.held_is in
-    let m : length held ≡ length x.symbols = ap (λ (s : List (SymbolId × Cell (List ℕ))). length s)
+    let k = b.held_is ∙ ap keys_of t.held_is in
+    let m = ap (λ (s : List (SymbolId × Cell (List ℕ))). length s)
     t.held_is in record {
       info = info;
-      information = told-information F key x info told t.info_is;
-      gaps_are = t.gaps_are ∙ ap (λ s. runs (wanted info s (ids info))) t.held_is ∙ ap runs
-          (sym (wants-told F key x info told));
-      rising = subst (IsStrictlySortedBy symbol_id_cmp) (sym k) told.object.symbols_are.ordered;
-      held_are = subst (λ (l : List SymbolId). (id : SymbolId) → Contains l id ↔
-          (fact_at F (symbol_address key id) ≢ None)) (sym k) (ids_told F key x told);
+      information = told-information F _ x _ told t.info_is;
+      gaps_are = rw (t.gaps_are, t.held_is, ← wants-told F key x info told);
+      rising = rw k told.object.symbols_are.ordered;
+      held_are = rw k (ids_told F key x told);
       begun_is = b.begun_is;
       blocks_are = b.blocks_are;
       ended_is = b.ended_is;

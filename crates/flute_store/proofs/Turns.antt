@@ -1,22 +1,22 @@
 -- What each turn of a walk does (specs/PartitionScan, specs/HeldScan).
-use Rattle.std.proofs.Common.{◌≡◌, ℕ, ◌-◌, cond, List, ◌∷◌, Option, Some, None, refl, sym, ap, ◌∙◌}
+use Rattle.std.proofs.Common.{◌≡◌, ℕ, List, Option, Some, None, refl, sym, ap, ◌∙◌}
 use Rattle.std.proofs.Common.{subst, rules, ◌+◌, ◌<◌, ◌^◌, false, length, arith, Bool}
 use Rattle.std.specs.Prelude.{length}
 use Rattle.flute_store.proofs.Lookups.{Entry}
 use Rattle.flute_store.proofs.Upcoming.{told, step-pass, step-take, step-begin, ahead-trans}
 use Rattle.flute_store.proofs.GapSteps.{step-want, gap-run, gap-missing, gaps-end}
 use Rattle.flute_store.proofs.Common
-use Common.{◌==◌, match_ordering, none-some, IsKnown, EachValue, Cell, Information, sizes}
-use Common.{symbol_id_cmp, symbol_id, SymbolId, Missing, Gap, Turn, Upcoming, End, BlockEnd, Passed}
+use Common.{IsKnown, EachValue, Cell, Information}
+use Common.{symbol_id_cmp, SymbolId, Gap, Turn, Upcoming, End, BlockEnd, Passed}
 use Common.{Fitting, Wanted, NotHeld, PartitionScan, want_cell, walk_of, IsPlace, IsWalk, length_of}
-use Common.{ShowsNext, want_length, upcoming_wanted, upcoming_held, upcoming_next, upcoming_at}
-use Common.{upcoming_of, until_held, until_next, ended_run, turn_on, turn_after, turn_of, GivesGap}
-use Common.{held_after, TurnsTo, IsOrdered, HeldScan, runs, Walk, remaining, at_start, Keeps}
-use Common.{walk_in, last_tick, bound, IsHeldScan, Turns, KeepsGaps, with_end, counted}
+use Common.{ShowsNext, want_length, upcoming_held, upcoming_next, upcoming_at}
+use Common.{upcoming_of, until_held, until_next, ended_run, turn_on, turn_after, turn_of}
+use Common.{held_after, TurnsTo, IsOrdered, HeldScan, runs, Walk, at_start, Keeps}
+use Common.{walk_in, last_tick, bound, IsHeldScan, Turns, KeepsGaps, counted}
 
 -- the run that ends, if one does, is the run
 pub run-is : (run : Option Gap) (l : Upcoming) (g : Gap) → ended_run run l ≡ Some g → run ≡ Some g
-run-is run l g h = grind arith
+run-is = grind arith
 
 -- the end of a block, a fitting symbol and one that is not held end each run
 abbrev pub Ends : Upcoming → Type 0
@@ -25,21 +25,21 @@ Ends (Wanted r) = ⊥
 Ends l = Unit {0}
 
 pub no-run : (run : Option Gap) (l : Upcoming) → Ends l → ended_run run l ≡ None → run ≡ None
-no-run x0 x1 x2 x3 = search rules
+no-run = search rules
 
 -- what comes next depends only on the next held symbol
 want-same : (info : Information) (id : SymbolId) (cell : Cell (List ℕ)) → IsKnown cell
     → want_length info id (length_of cell) ≡ want_cell info id (Some cell)
-want-same info id cell k = grind arith
+want-same = grind arith
 
 upcoming_next-same : (info : Information) (here : SymbolId) (held : List Entry)
     (next : Option (SymbolId × Option ℕ)) → EachValue IsKnown held → ShowsNext held next
     → upcoming_next info here next ≡ upcoming_held info here held
-upcoming_next-same x0 x1 x2 x3 x4 x5 = search rules
+upcoming_next-same = search rules
 
 until-same : (sbn size : ℕ) (held : List Entry) (next : Option (SymbolId × Option ℕ))
     → ShowsNext held next → until_next sbn size next ≡ until_held sbn size held
-until-same x0 x1 x2 x3 x4 = search rules
+until-same = search rules
 
 module _ (w : PartitionScan) (held : List Entry) (next : Option (SymbolId × Option ℕ))
     (n : ShowsNext held next) (p : IsWalk (walk_of w held)) where
@@ -53,42 +53,20 @@ module _ (w : PartitionScan) (held : List Entry) (next : Option (SymbolId × Opt
 
   by_run : (l : Upcoming) (o : Option Gap) → upcoming_of (walk_of w held) ≡ l
       → ended_run w.run l ≡ o → IsPlace (turn_after w next l o).1 → Gives l o
-  by_run l (Some g) e h q =
-      gap-run (walk_of w held) g p (run-is w.run l g h) (ap (ended_run w.run) e ∙ h)
-  by_run End None e h q = (
-    refl,
-    e,
-    record {
-      begun = (told (walk_of w held) End e).1;
-      none = gaps-end (walk_of w held) e (no-run w.run End tt h);
-    },
-  )
-  by_run BlockEnd None e h q = (
-    step-begin (walk_of w held) p (told (walk_of w held) BlockEnd e)
-        (no-run w.run BlockEnd tt h) q.longest,
-    e,
-    refl,
-  )
-  by_run Passed None e h q =
-      (step-pass (walk_of w held) p (told (walk_of w held) Passed e), e, refl)
-  by_run Fitting None e h q = (
-    step-take (walk_of w held) p (told (walk_of w held) Fitting e)
-        (no-run w.run Fitting tt h),
-    e,
-    refl,
-  )
-  by_run (Wanted r) None e h q =
-      (step-want (walk_of w held) r p (told (walk_of w held) (Wanted r) e) h, (r, e, refl))
-  by_run NotHeld None e h q = subst (λ u. GivesGap (walk_of w held)
-      (record { sbn = w.sbn; first = w.esi; last = u - 1; reason = Missing })
-      (walk_of (record w { esi = u }) held)) (sym (until-same w.sbn w.size held next n))
-      (gap-missing (walk_of w held) p (no-run w.run NotHeld tt h) e)
+  by_run l (Some g) e h q = gap-run _ g p (run-is _ l g h) (ap (ended_run _) e ∙ h)
+  by_run End None e h q =
+      (refl, e, record { begun = (told _ _ e).1; none = gaps-end _ e (no-run _ _ tt h) })
+  by_run BlockEnd None e h q = (step-begin _ p (told _ _ e) (no-run _ _ tt h) q.longest, e, refl)
+  by_run Passed None e h q = (step-pass _ p (told _ _ e), e, refl)
+  by_run Fitting None e h q = (step-take _ p (told _ _ e) (no-run _ _ tt h), e, refl)
+  by_run (Wanted r) None e h q = (step-want _ r p (told _ _ e) h, (r, e, refl))
+  by_run NotHeld None e h q = rw (until-same w.sbn w.size held next n) (gap-missing (walk_of w held) p (no-run w.run NotHeld tt h) e)
 
   -- a turn, given the next held symbol
   pub turn-turns : IsPlace (turn_of w next).1 → TurnsTo (walk_of w held) (turn_of w next).0
       (walk_of (turn_of w next).1 (held_after (turn_of w next).0 held))
   unfolding turn_of
-  turn-turns q = search (rules, by_run, upcoming-same)
+  turn-turns = search (rules, by_run, upcoming-same)
 
 -- ---- the parts of a turn
 
@@ -96,12 +74,12 @@ pub turn-ended : (w : PartitionScan) (next : Option (SymbolId × Option ℕ)) (g
     → ended_run w.run (upcoming_at w next) ≡ Some g
     → (Some (Turn.Gap g), record w { run = None }) ≡ turn_of w next
 unfolding turn_of
-turn-ended w next g h = search rules
+turn-ended = search rules
 
 pub turn-at : (w : PartitionScan) (next : Option (SymbolId × Option ℕ)) (l : Upcoming) → upcoming_at
     w next ≡ l → ended_run w.run (upcoming_at w next) ≡ None → turn_on w next l ≡ turn_of w next
 unfolding turn_of
-turn-at w next l e h = search rules
+turn-at = search rules
 
 -- ---- the turns of a walk over all that is held
 
@@ -112,50 +90,48 @@ Steps (Some Turn.End) = ⊥
 Steps turn = Unit {0}
 
 pub step-keeps : (v : Walk) (t : Option Turn) (w : Walk) → Steps t → TurnsTo v t w → Keeps v w
-step-keeps v t w s h = search rules
+step-keeps = search rules
 
 walked : (v : HeldScan) (next : Option (SymbolId × Option ℕ)) (t : Option Turn) (x : PartitionScan)
     → IsHeldScan v → ShowsNext v.held next → (t, x) ≡ turn_of v.walk next → IsPlace x
     → TurnsTo (walk_in v) t (walk_of x (held_after t v.held))
 walked v next t x p n e q = subst (λ (r : Option Turn × PartitionScan). TurnsTo (walk_in v) r.0
-    (walk_of r.1 (held_after r.0 v.held))) (sym e) (turn-turns v.walk v.held next n p.walk
-    (subst (λ (r : Option Turn × PartitionScan). IsPlace r.1) e q))
+    (walk_of r.1 (held_after r.0 v.held))) (sym e) (turn-turns _ _ _ n p.walk (rw (← e) q))
 
 last-ended : (b : Bool) (t r : ℕ) → t + last_tick b + r + 0 ≡ t + r + last_tick b
-last-ended b t r = omega arith
+last-ended = omega arith
 
 module _ (v : HeldScan) (x : PartitionScan) (p : IsHeldScan v) (q : IsPlace x) where
   -- a turn of a HeldScan is one step of its walk
   stepped : (t : Option Turn) (w : HeldScan) → Steps t → w.walk ≡ x → w.ticks ≡ v.ticks + 1
       → w.ended ≡ v.ended → TurnsTo (walk_in v) t (walk_in w) → IsHeldScan w × (bound w ≡ bound v)
-  stepped t w s e k d h = search rules
+  stepped = search rules
 
   turned : (t : Option Turn) → TurnsTo (walk_in v) t (walk_of x (held_after t v.held))
       → Turns v t (counted t (record v { walk = x }))
-  turned t h = search rules
+  turned = search rules
 
 -- the same, for any turn that `turn_of` returns
 pub held-turn : {v : HeldScan} (next : Option (SymbolId × Option ℕ)) {t : Option Turn}
     {x : PartitionScan} {w : HeldScan} → IsHeldScan v → ShowsNext v.held next
     → (t, x) ≡ turn_of v.walk next → IsPlace x → w ≡ counted t (record v { walk = x }) → Turns v t w
-held-turn {v} next {t} {x} p n e q h =
-    subst (Turns v t) (sym h) (turned v x p q t (walked v next t x p n e q))
+held-turn {v} next {t} {x} p n e q h = rw h (turned v x p q t (walked v next t x p n e q))
 
 ticked : (v w : HeldScan) (t : Option Turn) → Steps t → Turns v t w → w.ticks ≡ v.ticks + 1
-ticked v w t s h = search rules
+ticked = search rules
 
 -- ---- the start
 
 -- a new walk is in its place, before all that is held
 pub start-walk : (info : Information) (held : List Entry) → IsOrdered symbol_id_cmp held
     → EachValue IsKnown held → IsWalk (at_start info held)
-start-walk info held o k = search rules
+start-walk = search rules
 
 pub start-held : (info : Information) (held : List Entry) {w : PartitionScan} (left : List Entry) →
     walk_of w left ≡ at_start info held → IsPlace w → IsOrdered symbol_id_cmp held → EachValue
     IsKnown held → length held < 2 ^ 32 → IsHeldScan
     (record { walk = w; held = left; ticks = 0; ended = false })
-start-held info held left e q o k f = search rules
+start-held = search rules
 
 -- ---- turns one after another
 
@@ -168,5 +144,5 @@ keeps-step u v w t s k h =
       gaps_are = ap runs l.left_is ∙ k.gaps_are;
       bound_is = h.bound_is ∙ k.bound_is;
       onward = (let a = k.onward in let b = ticked v w t s h in omega (arith, a, b));
-      ahead = ahead-trans (walk_in u) (walk_in v) (walk_in w) k.ahead l.ahead;
+      ahead = ahead-trans _ (walk_in v) _ k.ahead l.ahead;
     }

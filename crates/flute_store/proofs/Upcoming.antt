@@ -1,17 +1,16 @@
 -- What comes next on a walk, and what is left then (specs/PartitionScan).
-use Rattle.std.proofs.lemmas.Grind.{common_steps}
 use Rattle.std.proofs.Common.{rules, ◌≡◌, ◌≢◌, ℕ, ◌+◌, ◌<◌, ◌≤◌, cond, List, [], ◌∷◌, ◌++◌, length}
-use Rattle.std.proofs.Common.{drop, Option, Some, None, refl, sym, ap, ◌∙◌, subst, inl, inr, arith}
+use Rattle.std.proofs.Common.{drop, Option, Some, None, refl, sym, ap, ◌∙◌, subst, arith}
 use Rattle.std.proofs.Common.{append_assoc, ◌-◌}
 use Rattle.flute_store.proofs.Lookups.{Above, Later, above-before, above-block, later-blocks}
-use Rattle.flute_store.proofs.Lookups.{block_from-first, block_from-end, blocks_from-next, Entry}
+use Rattle.flute_store.proofs.Lookups.{blocks_from-next, Entry}
 use Rattle.flute_store.proofs.Lookups.{wanted-past, wanted-here}
 use Rattle.flute_store.proofs.Common
-use Common.{◌==◌, option_map, cons_option, keys_of, Ordering, Less, Equal, Greater}
-use Common.{IsStrictlySortedBy, match_ordering, cases_Bool, eqb-true, eqb-false, eq-eqb}
-use Common.{sorted_tail, IsKnown, IsOrdered, EachValue, sizes, symbol_id_cmp, symbol_id_place}
+use Common.{◌==◌, option_map, cons_option, keys_of, Less, Greater}
+use Common.{IsStrictlySortedBy}
+use Common.{sorted_tail, IsKnown, IsOrdered, EachValue, sizes, symbol_id_cmp}
 use Common.{symbol_id, SymbolId, Reason, Gap, Upcoming, End, BlockEnd, Passed, Fitting, Wanted}
-use Common.{NotHeld, want_cell, with_reason, wanted, block_from, blocks_from, Walk, symbols_left}
+use Common.{NotHeld, want_cell, with_reason, block_from, blocks_from, Walk, symbols_left}
 use Common.{left, pending, IsBehind, EndsBefore, IsWalk, IsAhead, Keeps, after_pass, after_take}
 use Common.{after_begin, upcoming_wanted, upcoming_held, upcoming_of}
 
@@ -48,7 +47,7 @@ Tells w (Wanted reason) = AtHere w (Some reason)
 Tells w NotHeld = (w.esi ≢ w.size) × FirstAfter (here w) w.held
 
 tells-wanted : (w : Walk) (o : Option Reason) → AtHere w o → Tells w (upcoming_wanted o)
-tells-wanted x0 x1 x2 = search rules
+tells-wanted = search rules
 
 tells-held : (w : Walk) (held : List Entry) → w.held ≡ held → w.esi ≢ w.size
     → Tells w (upcoming_held w.partition (here w) held)
@@ -59,12 +58,12 @@ pub by-place : (esi size begun blocks : ℕ) {l : Upcoming} (P : Upcoming → Ty
     → (esi ≢ size → P l) → (esi ≡ size → begun ≡ blocks → P End)
     → (esi ≡ size → begun ≢ blocks → P BlockEnd)
     → P (cond (esi == size) (cond (begun == blocks) End BlockEnd) l)
-by-place esi size begun blocks P i e b = search rules
+by-place = search rules
 
 -- what comes next, by its case
 pub told : (w : Walk) (l : Upcoming) → upcoming_of w ≡ l → Tells w l
 unfolding upcoming_of
-told w l h = search (rules, by-place, sizes, tells-held)
+told = search (rules, by-place, sizes, tells-held)
 
 -- ---- the symbols that are left
 
@@ -72,23 +71,23 @@ abbrev pub others_left : Walk → List SymbolId
 others_left w = block_from w.sbn (w.esi + 1) w.size ++ blocks_from w.partition w.begun
 
 pub symbols-first : (w : Walk) → w.esi < w.size → symbols_left w ≡ here w ∷ others_left w
-symbols-first w l = search rules
+symbols-first = search rules
 
 pub blocks-later : (w : Walk) → IsWalk w → 0 < w.size
     → Later w.sbn (blocks_from w.partition w.begun)
-blocks-later w p l = search (rules, later-blocks)
+blocks-later = search (rules, later-blocks)
 
 pub others-above : (w : Walk) → IsWalk w → w.esi < w.size → Above (here w) (others_left w)
-others-above w p l = search (rules, above-block, blocks-later)
+others-above = search (rules, above-block, blocks-later)
 
 pub inside-less : (w : Walk) → IsWalk w → w.esi ≢ w.size → w.esi < w.size
-inside-less w p i = search rules
+inside-less = search rules
 
 -- ---- steps
 
 held-ordered : (held : List Entry) (e : Entry) (es : List Entry) → held ≡ e ∷ es
     → IsOrdered symbol_id_cmp held → IsOrdered symbol_id_cmp (drop 1 held)
-held-ordered held e es h s = search (rules, sorted_tail)
+held-ordered = search (rules, sorted_tail)
 
 held-known : (held : List Entry) (e : Entry) (es : List Entry) → held ≡ e ∷ es
     → EachValue IsKnown held → EachValue IsKnown (drop 1 held)
@@ -104,15 +103,14 @@ behind-first : (w : Walk) (e : Entry) (es : List Entry) → w.held ≡ e ∷ es 
     → IsOrdered symbol_id_cmp w.held → IsBehind w.sbn (w.esi + 1 - 1) (drop 1 w.held)
 behind-first w e es h p s =
     let k : w.esi + 1 - 1 ≡ w.esi = omega arith in
-    rw (k, h) (subst (λ id. Above id (keys_of es)) p (sorted-first e es (rw h at s)))
+    rw (k, h) (subst (λ id. Above id (keys_of es)) p (sorted-first e _ (rw h at s)))
 
 -- ---- how far a walk is
 
 pub ahead-trans : (u v w : Walk) → IsAhead u v → IsAhead v w → IsAhead u w
 ahead-trans u v w a b = record {
   passed = a.passed ++ b.passed;
-  held_is = a.held_is ∙ ap (λ x. a.passed ++ x) b.held_is ∙ sym
-      (append_assoc a.passed b.passed w.held);
+  held_is = rw (a.held_is, b.held_is, ← append_assoc a.passed b.passed w.held);
   onward = omega arith;
   partition_is = b.partition_is ∙ a.partition_is;
 }
@@ -128,7 +126,7 @@ ahead-first w x e es h d b p = record {
 
 step-behind : (w : Walk) (t : AtPassed w) → IsBehind w.sbn (w.esi - 1) w.held
     → IsBehind w.sbn (w.esi - 1) (drop 1 w.held)
-step-behind w t b = search rules
+step-behind = search rules
 
 -- passing a held symbol that is not of the partition
 pub step-pass : (w : Walk) → IsWalk w → AtPassed w → Keeps w (after_pass w)
@@ -142,9 +140,9 @@ step-pass w p t =
             t.first t.others t.held p.known,
         λ (z : 0 < w.esi). step-behind w t (p.behind z),
       );
-      ahead = ahead-first w (after_pass w) t.first t.others t.held refl refl refl;
+      ahead = ahead-first w _ t.first t.others t.held refl refl refl;
       left_is =
-          let a = above-before t.first.0 (here w) (others_left w) t.before (others-above w p l) in
+          let a = above-before _ (here w) _ t.before (others-above w p l) in
           rw (
             t.held,
             symbols-first w l,
@@ -161,46 +159,46 @@ taken run w = record w { held = drop 1 w.held; esi = w.esi + 1; run = run }
 -- taking the next held symbol: the walk stays in order, and what is left is after it
 pub taken-walk : (run : Option Gap) (w : Walk) (why : Option Reason) → IsWalk w → AtHere w why
     → EndsBefore w.sbn (w.esi + 1) run → IsWalk (taken run w)
-taken-walk run w why p t r = search (rules, inside-less, held-ordered, held-known, behind-first)
+taken-walk = search (rules, inside-less, held-ordered, held-known, behind-first)
 
 pub taken-left : (run : Option Gap) (w : Walk) (why : Option Reason) → IsWalk w → AtHere w why
     → left w ≡ cons_option (option_map (with_reason (here w)) why) (left (taken run w))
 unfolding left
-taken-left run w why p t = search (rules, inside-less, wanted-here, others-above, symbols-first)
+taken-left = search (rules, inside-less, wanted-here, others-above, symbols-first)
 
 pub taken-keeps : (run : Option Gap) (w : Walk) (why : Option Reason) → IsWalk w → AtHere w why
     → EndsBefore w.sbn (w.esi + 1) run → pending run ++ left (taken run w) ≡ pending w.run ++ left w
     → Keeps w (taken run w)
 taken-keeps run w why p t r e =
     let l = inside-less w p t.inside in
-    let a = ahead-first w (taken run w) t.first t.others t.held refl refl refl in
+    let a = ahead-first w _ t.first t.others t.held refl refl refl in
     record {
-      walk = taken-walk run w why p t r;
+      walk = taken-walk _ w _ p t r;
       left_is = e;
       fewer = rw t.held (omega arith);
       ahead = a;
     }
 
 pub step-take : (w : Walk) → IsWalk w → AtHere w None → w.run ≡ None → Keeps w (after_take w)
-step-take w p t r = taken-keeps w.run w None p t (subst (EndsBefore w.sbn (w.esi + 1)) (sym r) tt)
-    (ap (λ ws. pending w.run ++ ws) (sym (taken-left w.run w None p t)))
+step-take w p t r = taken-keeps _ w _ p t (rw r tt)
+    (ap (λ ws. pending w.run ++ ws) (sym (taken-left w.run w _ p t)))
 
 -- where the block has no symbol left, those of the other blocks are
 pub symbols-end : (w : Walk) → w.esi ≡ w.size → symbols_left w ≡ blocks_from w.partition w.begun
-symbols-end w e = search rules
+symbols-end = search rules
 
 -- beginning the next block
 pub step-begin : (w : Walk) → IsWalk w → Tells w BlockEnd → w.run ≡ None
     → (after_begin w).size ≤ 65536 → Keeps w (after_begin w)
 unfolding left
-step-begin w p t r s = search (rules, sizes, blocks_from-next, symbols-end)
+step-begin = search (rules, sizes, blocks_from-next, symbols-end)
 
 -- ---- what comes next, from its parts
 
 pub upcoming-end : (w : Walk) → w.esi ≡ w.size → w.begun ≡ length (sizes w.partition)
     → End ≡ upcoming_of w
 unfolding upcoming_of
-upcoming-end w e f = search rules
+upcoming-end = search rules
 
 pub block-left : (w : Walk) → IsWalk w → Tells w BlockEnd → w.begun < length (sizes w.partition)
-block-left w p t = search rules
+block-left = search rules

@@ -1,20 +1,21 @@
 -- Facts with the same values make the same object; it is whole if it has no gap (specs/Objects).
-use Rattle.std.proofs.Common.{◌≡◌, ℕ, zero, suc, get_or, ◌<◌, cond, List, [], ◌∷◌, length, take}
+use Rattle.std.proofs.Common.{rules}
+use Rattle.std.proofs.Common.{◌≡◌, ℕ, zero, suc, get_or, ◌<◌, List, [], ◌∷◌, length}
 use Rattle.std.proofs.Common.{Option, Some, None, refl, sym, ap, ◌∙◌, arith}
 use Rattle.flute_parts.proofs.Public.{fact_at-address}
 use Rattle.flute_store.proofs.Runs.{runs-listed}
 use Rattle.flute_store.proofs.Common
 use Common.{flat_map, filter_map, option_map, Contains, cons_option, Key, SymbolId, Address, Reason}
-use Common.{Misfit, Info, Symbol, Fact, Information, info_address, symbol_address, fact_at, Same}
-use Common.{ids, IsHeld, Whole, value_bytes, object, want, wants, runs, gaps, listed}
+use Common.{Info, Symbol, Fact, Information, info_address, symbol_address, fact_at, Same}
+use Common.{ids, IsHeld, Whole, object, want, wants, runs, gaps}
 
 pub Whole-same : (F G : List Fact) (key : Key) (info : Information) → Same F G → Whole F key info
     → Whole G key info
 Whole-same F G key info h w = record {
-  information = sym (h.each (info_address key)) ∙ w.information;
-  each = λ id m. let held = w.each id m in record {
+  information = sym (h.each _) ∙ w.information;
+  each = λ id m. let held = w.each _ m in record {
     bytes = held.bytes;
-    value = sym (h.each (symbol_address key id)) ∙ held.value;
+    value = sym (h.each _) ∙ held.value;
     fitting = held.fitting;
   };
 }
@@ -22,19 +23,16 @@ Whole-same F G key info h w = record {
 pub object-same : (F G : List Fact) (key : Key) (info : Information) → Same F G
     → object F key info ≡ object G key info
 unfolding object
-object-same F G key info h = λ i. take info.transfer_length
-    (flat_map (λ id. value_bytes (h.each (symbol_address key id) i)) (ids info))
+object-same = search rules
 
 wants-same : (F G : List Fact) (key : Key) (info : Information) → Same F G
     → wants F key info ≡ wants G key info
 unfolding wants
-wants-same F G key info h =
-    λ i. filter_map (λ id. option_map (λ reason. (id, reason))
-    (want info id (h.each (symbol_address key id) i))) (ids info)
+wants-same = search rules
 
 pub gaps-same : (F G : List Fact) (key : Key) (info : Information) → Same F G
     → gaps F key info ≡ gaps G key info
-gaps-same F G key info h = ap runs (wants-same F G key info h)
+gaps-same F G key info h = rw (wants-same F G key info h)
 
 -- an object is whole where it has no gap
 
@@ -42,31 +40,29 @@ filter_map-none : (f : SymbolId → Option (SymbolId × Reason)) (xs : List Symb
     → ((x : SymbolId) → Contains xs x → f x ≡ None) → filter_map f xs ≡ []
 filter_map-none f [] h = refl
 filter_map-none f (x ∷ xs) h =
-    ap (λ o. cons_option o (filter_map f xs)) (h x (0, omega arith, refl))
-    ∙ filter_map-none f xs (λ y c. h y (suc c.0, omega (arith, c.1), c.2))
+    rw (h x (0, omega arith, refl), filter_map-none f xs (λ y c. h y (suc c.0, omega (arith, c.1), c.2)))
 
 none-filter_map_head : (o : Option (SymbolId × Reason)) (ys : List (SymbolId × Reason))
     → cons_option o ys ≡ [] → (o ≡ None) × (ys ≡ [])
-none-filter_map_head o ys e = grind arith
+none-filter_map_head = grind arith
 
 none-filter_map : (f : SymbolId → Option (SymbolId × Reason)) (xs : List SymbolId)
     → filter_map f xs ≡ [] → (k : ℕ) (x : SymbolId) → k < length xs → get_or xs k x ≡ x → f x ≡ None
 none-filter_map f [] e k x l g = absurd (omega arith)
-none-filter_map f (y ∷ ys) e zero x l g =
-    ap f (sym g) ∙ (none-filter_map_head (f y) (filter_map f ys) e).0
+none-filter_map f (y ∷ ys) e zero x l g = ap f (sym g) ∙ (none-filter_map_head _ _ e).0
 none-filter_map f (y ∷ ys) e (suc k) x l g =
-    none-filter_map f ys (none-filter_map_head (f y) (filter_map f ys) e).1 k x (omega arith) g
+    none-filter_map f ys (none-filter_map_head _ _ e).1 k x (omega arith) g
 
 -- a symbol that is not wanted is held
 map_none : (f : Reason → SymbolId × Reason) (o : Option Reason) → option_map f o ≡ None → o ≡ None
-map_none f o e = grind arith
+map_none = grind arith
 
 held-from : (F : List Fact) (key : Key) (info : Information) (id : SymbolId) (o : Option Fact)
     → fact_at F (symbol_address key id) ≡ o → want info id o ≡ None → IsHeld F key info id
 held-from F key info id (Some (Symbol k i b)) e w =
-    let p : symbol_address k i ≡ symbol_address key id =
-    fact_at-address F (symbol_address key id) (Symbol k i b) e in
-    let q : k ≡ key = ap (λ (a : Address). a.key) p in
+    let p =
+    fact_at-address F _ _ e in
+    let q = ap (λ (a : Address). a.key) p in
     let r : i ≡ id = let s = ap (λ (a : Address). a.part) p in cc in
     record {
       bytes = b;
@@ -77,27 +73,22 @@ held-from F key info id o e w = cc
 
 want-held : (F : List Fact) (key : Key) (info : Information) (id : SymbolId) → IsHeld F key info id
     → want info id (fact_at F (symbol_address key id)) ≡ None
-want-held F key info id h = ap (want info id) h.value ∙ ap (λ b. cond b None (Some Misfit))
-    h.fitting
+want-held = search rules
 
 -- no gaps: whole; and the other way round
 pub gapless-whole : (F : List Fact) (key : Key) (info : Information)
     → fact_at F (info_address key) ≡ Some (Info key info) → gaps F key info ≡ [] → Whole F key info
 unfolding wants
 gapless-whole F key info e g =
-    let w : wants F key info ≡ [] = sym (runs-listed (wants F key info)) ∙ ap (flat_map listed) g in
+    let w = sym (runs-listed _) ∙ ap (flat_map _) g in
     record {
       information = e;
-      each = λ id c. held-from F key info id (fact_at F (symbol_address key id)) refl
-          (map_none (λ reason. (id, reason)) (want info id (fact_at F (symbol_address key id)))
-          (none-filter_map (λ id. option_map (λ reason. (id, reason))
-          (want info id (fact_at F (symbol_address key id)))) (ids info) w c.0 id c.1 c.2));
+      each = λ id c. held-from F _ _ _ _ refl (map_none (λ reason. (id, reason)) _ (none-filter_map
+          (λ id. option_map (λ reason. (id, reason)) (want _ _ _)) (ids _) w c.0 id c.1 c.2));
     }
 
 pub whole-gapless : (F : List Fact) (key : Key) (info : Information) → Whole F key info
     → gaps F key info ≡ []
 unfolding wants runs
 whole-gapless F key info w =
-    ap runs (filter_map-none (λ id. option_map (λ reason. (id, reason))
-    (want info id (fact_at F (symbol_address key id)))) (ids info)
-    (λ id c. ap (option_map (λ reason. (id, reason))) (want-held F key info id (w.each id c))))
+    rw (filter_map-none (λ id. option_map (λ reason. (id, reason)) (want info id (fact_at F (symbol_address key id)))) (ids info) (λ id c. ap (option_map (λ reason. (id, reason))) (want-held F key info id (w.each id c))))

@@ -10,5 +10,5 @@ returns c = record {
   gaps = gaps-same;
   length = object-length;
   datagrams = λ F key info content datagrams v whole written same.
-      datagrams_give_the_object F key content datagrams v whole written same;
+      datagrams_give_the_object F _ _ datagrams v whole written same;
 }

@@ -1,9 +1,10 @@
+use Rattle.std.proofs.Common.{rules}
 use Rattle.std.proofs.Common.{[], ◌++◌, ◌≢◌, List, None, ◌∙◌, refl}
 use Rattle.flute_parts.specs.Facts.{Same, Below}
 use Rattle.flute_parts.proofs.Public.{Below-append, Below-from_Same, Below-itself, Below-trans}
 use Rattle.flute_parts.proofs.Public.{Same-from_Below, Same-twice}
 use Rattle.flute_store.proofs.Common
-use Common.{InfoPart, Fact, Info, InfoConflict, Symbol, SymbolConflict, address, fact_at, HasCell}
+use Common.{Fact, address, fact_at, HasCell}
 use Rattle.flute_store.proofs.laws.what_is_held_is_joined.Goals as goal
 
 joined_again : (old other left : List Fact) → Below old left → Below left (old ++ other)
@@ -11,17 +12,14 @@ joined_again : (old other left : List Fact) → Below old left → Below left (o
 joined_again old other left above below =
     let both = old ++ other in
     let nothing : Below [] old = record { each = λ a. refl } in
-    let second : Below other both = Below-append [] old other other nothing (Below-itself other) in
-    let twice = Below-from_Same (both ++ both) both (Same-twice both) in
-    Same-from_Below (left ++ other) both (Below-trans (left ++ other) (both ++ both) both
+    let second = Below-append [] old other other nothing (Below-itself _) in
+    let twice = Below-from_Same (both ++ both) both (Same-twice _) in
+    Same-from_Below _ _ (Below-trans (left ++ other) (both ++ both) _
     (Below-append left both other both below second) twice)
-    (Below-append old left other other above (Below-itself other))
+    (Below-append old left other other above (Below-itself _))
 
 has_cell : (held : List Fact) (f : Fact) → fact_at held (address f) ≢ None → HasCell held f
-has_cell held (Info key info) h = (InfoPart, h)
-has_cell held (InfoConflict key) h = (InfoPart, h)
-has_cell held (Symbol key id bytes) h = h
-has_cell held (SymbolConflict key id) h = h
+has_cell = search rules
 
 pub returns : goal.returns
 returns c = record {

@@ -36,7 +36,7 @@ returns-in-Some-clause-ok g c =
 
 pub returns-in-Some-clause-full : goal.returns-in-Some-clause-full
 returns-in-Some-clause-full g c = λ e. inr (held-beyond (objects_joined g.row.SYMBOLS)
-    c.args.objects.now c.args.key (update_object c.args.update.now) ObjectBeyond
+    c.args.objects.now c.args.key (update_object _) ObjectBeyond
     c.in-Some.ensures.ordered (sym c.in-Some.ensures.value) (c.join_update.ensures.full e))
 
 pub returns-in-Some-clause-room : goal.returns-in-Some-clause-room
@@ -44,12 +44,10 @@ returns-in-Some-clause-room g c = λ n. held-sound (objects_joined g.row.SYMBOLS
   ordered = c.in-Some.ensures.ordered;
   within = c.in-Some.ensures.within;
   each = c.requires.each;
-}) c.args.key (update_object c.args.update.now) (sym c.in-Some.ensures.value)
-    (c.join_update.ensures.room n)
+}) c.args.key (update_object _) (sym c.in-Some.ensures.value) (c.join_update.ensures.room n)
 
 pub returns-then-len-clause-full : goal.returns-then-len-clause-full
-returns-then-len-clause-full g c = λ _. inl (full-beyond (objects_joined g.row.SYMBOLS)
-    c.args.objects.now c.args.key (update_object c.args.update.now) g.row.OBJECTS
+returns-then-len-clause-full g c = λ _. inl (full-beyond (objects_joined _) _ _ _ _
     (sym c.in_default.ensures.value) (sym c.len.ensures.value ∙ c.if-len.true))
 
 made : (n : ℕ) (x : Object n) (w : Object n) → x.info ≡ Absent → x.symbols ≡ []
@@ -81,16 +79,14 @@ returns-in_err-join_update-clause-room g c =
 
 pub returns-clause-ok : goal.returns-clause-ok
 returns-clause-ok g c =
-    let is = made g.row.SYMBOLS _ (update_object c.args.update.now) (λ _. Absent) c.new.ensures in
+    let is = made _ _ _ (λ _. Absent) c.new.ensures in
     let added = rw (c.in_ok-join_update.ensures.ok ∙ is) at c.add_new.ensures.ok in
-    added_joins object_total (object_join_laws g.row.SYMBOLS) _ _ _ _
-    (sym c.in_default.ensures.value) c.add_new.result added
+    added_joins object_total (object_join_laws _) _ _ _ _ (sym c.in_default.ensures.value) _ added
 
 pub returns-clause-room : goal.returns-clause-room
 returns-clause-room g c =
-    let is = made g.row.SYMBOLS _ (update_object c.args.update.now) (λ _. Absent) c.new.ensures in
+    let is = made _ _ _ (λ _. Absent) c.new.ensures in
     let room : length c.args.objects.now < g.row.OBJECTS = omega arith in
-    λ n. new-sound (objects_joined g.row.SYMBOLS)
-    (has-room c.args.objects.now c.in_default.ensures.ordered c.requires.each room) _ _
-    (sym c.in_default.ensures.value) room
+    λ n. new-sound (objects_joined _) (has-room _ c.in_default.ensures.ordered c.requires.each room)
+    _ _ (sym c.in_default.ensures.value) room
     (subst IsObject is (c.in_ok-join_update.ensures.room (λ e. cc)))

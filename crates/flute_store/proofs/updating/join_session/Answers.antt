@@ -13,7 +13,7 @@ use Rattle.flute_store.proofs.updating.join_session.Goals as goal
 pub join_object-requires : goal.join_object-requires
 join_object-requires g c =
     let found = sym c.in-Some.ensures.value in
-    let sound = each-value_at session_cmp (IsSession g.row.OBJECTS) c.args.sessions.now
+    let sound = each-value_at session_cmp (IsSession _) c.args.sessions.now
     c.args.key.now.session c.in-Some.held.now c.requires.each found in
     (lit< tt, (lit< tt, (sound.each, c.requires.update)))
 
@@ -33,10 +33,9 @@ returns-in-Some-clause-ok g c =
     c.in-Some.ensures.ordered (sym c.in-Some.ensures.value))) c.join_object.ensures.ok
 
 pub returns-in-Some-clause-full : goal.returns-in-Some-clause-full
-returns-in-Some-clause-full g c =
-    λ e. inr (held-beyond (sessions_joined g.row.SYMBOLS) c.args.sessions.now c.args.key.now.session
-    ((c.args.key.now.object, update_object {n = g.row.SYMBOLS} c.args.update.now) ∷ [])
-    (SessionBeyond g.row.OBJECTS) c.in-Some.ensures.ordered (sym c.in-Some.ensures.value)
+returns-in-Some-clause-full g c = λ e. inr (held-beyond (sessions_joined g.row.SYMBOLS)
+    c.args.sessions.now c.args.key.now.session ((c.args.key.now.object, update_object _) ∷ [])
+    (SessionBeyond _) c.in-Some.ensures.ordered (sym c.in-Some.ensures.value)
     (c.join_object.ensures.full e))
 
 pub returns-in-Some-clause-room : goal.returns-in-Some-clause-room
@@ -44,18 +43,15 @@ returns-in-Some-clause-room g c = λ n. held-sound (sessions_joined g.row.SYMBOL
   ordered = c.in-Some.ensures.ordered;
   within = c.in-Some.ensures.within;
   each = c.requires.each;
-}) c.args.key.now.session
-    ((c.args.key.now.object, update_object {n = g.row.SYMBOLS} c.args.update.now) ∷ [])
+}) c.args.key.now.session ((c.args.key.now.object, update_object _) ∷ [])
     (sym c.in-Some.ensures.value) (c.join_object.ensures.room n)
 
 pub returns-then-len-clause-full : goal.returns-then-len-clause-full
-returns-then-len-clause-full g c = λ _. inl (full-beyond (sessions_joined g.row.SYMBOLS)
-    c.args.sessions.now c.args.key.now.session
-    ((c.args.key.now.object, update_object {n = g.row.SYMBOLS} c.args.update.now) ∷ [])
-    g.row.SESSIONS (sym c.in_default.ensures.value) (sym c.len.ensures.value ∙ c.if-len.true))
+returns-then-len-clause-full g c = λ _. inl (full-beyond (sessions_joined _) _ _ _ _
+    (sym c.in_default.ensures.value) (sym c.len.ensures.value ∙ c.if-len.true))
 
 made : (n : ℕ) (m w : List (ObjectName × Object n)) → m ≡ [] → session_join m w ≡ w
-made n m w p = ap (λ x. session_join x w) p ∙ nothing_join object_cmp object_join w
+made n m w p = rw (p, nothing_join object_cmp object_join w)
 
 pub returns-in_err-join_object-clause-full : goal.returns-in_err-join_object-clause-full
 returns-in_err-join_object-clause-full g c =
@@ -77,15 +73,14 @@ returns-in_err-join_object-clause-room g c =
 
 pub returns-clause-ok : goal.returns-clause-ok
 returns-clause-ok g c =
-    let same = c.in_ok-join_object.ensures.ok ∙ made g.row.SYMBOLS _ _ c.new-objects.ensures in
+    let same = c.in_ok-join_object.ensures.ok ∙ made _ _ _ c.new-objects.ensures in
     let added = rw same at c.add_new.ensures.ok in
-    added_joins session_total (session_laws g.row.SYMBOLS) _ _ _ _ (sym c.in_default.ensures.value)
-    c.add_new.result added
+    added_joins session_total (session_laws _) _ _ _ _ (sym c.in_default.ensures.value) _ added
 
 pub returns-clause-room : goal.returns-clause-room
 returns-clause-room g c =
     let room : length c.args.sessions.now < g.row.SESSIONS = omega arith in
-    λ n. new-sound (sessions_joined g.row.SYMBOLS)
-    (has-room c.args.sessions.now c.in_default.ensures.ordered c.requires.each room) _ _
+    λ n. new-sound (sessions_joined _)
+    (has-room _ c.in_default.ensures.ordered c.requires.each room) _ _
     (sym c.in_default.ensures.value) room (subst (IsSession g.row.OBJECTS)
-    (made g.row.SYMBOLS _ _ c.new-objects.ensures) (c.in_ok-join_object.ensures.room (λ e. cc)))
+    (made _ _ _ c.new-objects.ensures) (c.in_ok-join_object.ensures.room (λ e. cc)))

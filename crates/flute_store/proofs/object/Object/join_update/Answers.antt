@@ -1,7 +1,7 @@
 -- Object::join_update: unless the result is `Full`, the joined object is sound (IsObject).
 use Rattle.std.proofs.Common.{◌≡◌, ◌≢◌, None, ℕ}
 use Rattle.flute_store.proofs.Common
-use Common.{err_from_is_err_and, Absent, same_information, Object, Update, object_join}
+use Common.{err_from_is_err_and, Absent, Object, Update, object_join}
 use Common.{symbols_join, update_object, update_symbols, AreSymbols, IsObject}
 use Rattle.flute_store.proofs.OnePair.{symbols_joined, absent-right, some-right, update-some}
 use Rattle.flute_store.proofs.object.Object.join_update.Goals as goal
@@ -11,8 +11,7 @@ sound : (n : ℕ) (x : Object n) (update : Update) → (update.info ≡ Absent �
     → IsObject (object_join x (update_object update))
 sound n x update some are = record {
   symbols_are = are;
-  some = λ e. some-right symbols_joined x.symbols (update_symbols update.symbol)
-      (update-some update.symbol (some (absent-right same_information x.info update.info e)));
+  some = λ e. some-right symbols_joined _ _ (update-some _ (some (absent-right _ _ _ e)));
 }
 
 pub returns-in_err-join_symbols-clause-room : goal.returns-in_err-join_symbols-clause-room
@@ -22,5 +21,5 @@ returns-in_err-join_symbols-clause-room g c =
     c.requires.update.some (c.in_err-join_symbols.ensures.room n))
 
 pub returns-in-Absent-clause-room : goal.returns-in-Absent-clause-room
-returns-in-Absent-clause-room g c = λ n. sound g.row.SYMBOLS c.args.self.now c.args.update.now
+returns-in-Absent-clause-room g c = λ n. sound _ c.args.self.now c.args.update.now
     c.requires.update.some (c.in_ok-join_symbols.ensures.room (λ e. cc))

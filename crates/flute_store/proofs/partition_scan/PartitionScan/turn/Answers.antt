@@ -1,5 +1,6 @@
 -- PartitionScan::turn: each branch makes the turn that specs/PartitionScan says.
-use Rattle.std.proofs.Common.{None, Some, sym, ap, ◌∙◌, subst, ◌≤◌}
+use Rattle.std.proofs.Common.{rules}
+use Rattle.std.proofs.Common.{Some, sym, ap, ◌∙◌, subst, ◌≤◌}
 use Rattle.flute_store.proofs.Common
 use Common.{PartitionScan, End, BlockEnd, Passed, Fitting, Wanted, NotHeld, ended_run}
 use Rattle.flute_store.proofs.Turns.{turn-ended, turn-at}
@@ -26,9 +27,7 @@ returns-in-End-clause-turn c = turn-at _ _ End (sym c.upcoming-upcoming.ensures 
     (ap (ended_run _) (sym c.upcoming-upcoming.ensures) ∙ sym c.ended_run.ensures ∙ c.in_default.is)
 
 pub returns-in-BlockEnd-clause-turn : goal.returns-in-BlockEnd-clause-turn
-returns-in-BlockEnd-clause-turn c = ap (λ x. (None, x)) c.begin.ensures.block ∙ turn-at _ _ BlockEnd
-    (sym c.upcoming-upcoming.ensures ∙ c.in-BlockEnd.is)
-    (ap (ended_run _) (sym c.upcoming-upcoming.ensures) ∙ sym c.ended_run.ensures ∙ c.in_default.is)
+returns-in-BlockEnd-clause-turn c = rw (c.begin.ensures.block, turn-at _ _ BlockEnd (sym c.upcoming-upcoming.ensures ∙ c.in-BlockEnd.is) (ap (ended_run _) (sym c.upcoming-upcoming.ensures) ∙ sym c.ended_run.ensures ∙ c.in_default.is))
 
 pub returns-in-BlockEnd-clause-place : goal.returns-in-BlockEnd-clause-place
 returns-in-BlockEnd-clause-place c =
@@ -49,9 +48,7 @@ returns-in-Fitting-clause-place c =
     placed _ _ c.requires _ _ (returns-in-Fitting-clause-turn c) c.requires.longest
 
 pub returns-in-Wanted-clause-turn : goal.returns-in-Wanted-clause-turn
-returns-in-Wanted-clause-turn c = ap (λ x. (Some Turn.Wanted, x)) c.want.ensures ∙ turn-at _ _
-    (Wanted _) (sym c.upcoming-upcoming.ensures ∙ c.in-Wanted.is)
-    (ap (ended_run _) (sym c.upcoming-upcoming.ensures) ∙ sym c.ended_run.ensures ∙ c.in_default.is)
+returns-in-Wanted-clause-turn c = rw (c.want.ensures, turn-at _ _ (Wanted _) (sym c.upcoming-upcoming.ensures ∙ c.in-Wanted.is) (ap (ended_run _) (sym c.upcoming-upcoming.ensures) ∙ sym c.ended_run.ensures ∙ c.in_default.is))
 
 pub returns-in-Wanted-clause-place : goal.returns-in-Wanted-clause-place
 returns-in-Wanted-clause-place c = placed _ _ c.requires _ _ (returns-in-Wanted-clause-turn c)
@@ -64,5 +61,4 @@ returns-in-NotHeld-clause-turn c =
     (ap (ended_run _) (sym c.upcoming-upcoming.ensures) ∙ sym c.ended_run.ensures ∙ c.in_default.is)
 
 pub returns-in-NotHeld-clause-place : goal.returns-in-NotHeld-clause-place
-returns-in-NotHeld-clause-place c = placed _ _ c.requires _ _ (returns-in-NotHeld-clause-turn c)
-    (subst (λ (x : PartitionScan). x.size ≤ 65536) (sym c.missing.ensures.walk) c.requires.longest)
+returns-in-NotHeld-clause-place = search rules

@@ -5,8 +5,7 @@ use Rattle.flute_store.proofs.scan.ObjectScan.new.Goals as goal
 pub invariant_of-result : goal.invariant_of-result
 invariant_of-result c = record {
   place = c.new.ensures.place;
-  within = new-within c.new.result c.none.result c.none.ensures
-      (ap (λ (y : Walk). y.run) (c.new.ensures.start []));
+  within = new-within c.new.result _ c.none.ensures (ap (λ y. y.run) (c.new.ensures.start []));
   partition = ap (λ (y : Walk). y.partition) (c.new.ensures.start []);
 }
 

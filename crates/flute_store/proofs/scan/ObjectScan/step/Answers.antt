@@ -1,6 +1,6 @@
 -- ObjectScan::step: the turn it makes, and the blocks that are left.
 use Rattle.std.proofs.Common.{◌≡◌, rules, sym, subst, ap, ◌∙◌}
-use Rattle.flute_store.proofs.Common.{turn_of, ScanState, Scans, announced, passed_at_end, Stepped}
+use Rattle.flute_store.proofs.Common.{turn_of, ScanState, Scans, announced, passed_at_end}
 use Rattle.flute_store.proofs.ScanGaps.{Step}
 use Rattle.flute_store.proofs.ScanSteps.{can-add, step-scan, stepped, begins-blocks}
 use Rattle.flute_store.proofs.scan.ObjectScan.step.Goals.{in-Some-End-Some, in_default}
@@ -27,8 +27,7 @@ returns-clause-step c = λ s next h q f. let step : Step _ s next c.turn-turn.re
       | in_default w ↦ search rules
       | in_default-2 w ↦ search rules
       | in_default-3 w ↦ search rules
-    ] in subst (Stepped s next _) (sym (passed ∙ ap (passed_at_end c.turn-turn.result) h))
-    (stepped next c.turn-turn.result step _ f c.add_turn.ensures)
+    ] in rw (passed ∙ ap (passed_at_end c.turn-turn.result) h) (stepped next c.turn-turn.result step _ f c.add_turn.ensures)
 
 pub returns-clause-blocks : goal.returns-clause-blocks
 returns-clause-blocks c = begins-blocks c.args.held.now c.add_turn.new.self c.self.view_is

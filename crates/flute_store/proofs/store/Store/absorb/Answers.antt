@@ -1,4 +1,5 @@
 -- Store::absorb: the joined store holds the facts of both, within its limits, or why not.
+use Rattle.std.proofs.Common.{rules}
 use Rattle.std.proofs.Common.{◌++◌, sym, subst, refl}
 use Rattle.flute_store.proofs.NewFacts.{needs-new}
 use Rattle.flute_store.proofs.Exceeding.{solid-store, beyond-joined, over-beyond}
@@ -8,13 +9,7 @@ use Rattle.flute_store.proofs.Common.{on_ok_weaker, IfErr-at_err, Same, content}
 use Rattle.flute_store.proofs.store.Store.absorb.Goals as goal
 
 pub invariant_of-self : goal.invariant_of-self
-invariant_of-self g c =
-    let joined = c.join_from.ensures in
-    record {
-      ordered = joined.ordered;
-      within = joined.within_limit;
-      each = joined.each c.self.invariant.each c.other.invariant.each;
-    }
+invariant_of-self = search rules
 
 pub returns-clause-ok : goal.returns-clause-ok
 returns-clause-ok g c =

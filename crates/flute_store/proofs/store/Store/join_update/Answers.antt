@@ -1,11 +1,12 @@
 -- Store::join_update: the joined facts, when it is full, and success where addresses are held.
-use Rattle.std.proofs.Common.{◌≡◌, ◌++◌, Err, sym, subst, Result, Ok, refl}
+use Rattle.std.proofs.Common.{rules}
+use Rattle.std.proofs.Common.{◌≡◌, ◌++◌, Err, sym, subst, Result}
 use Rattle.flute_store.proofs.StoreJoin.{ordered-store, content-join, one_object, one-ordered}
 use Rattle.flute_store.proofs.{StoreJoin.{one-content}, Counting.{not_over}, Found.{news_held}}
 use Rattle.flute_store.proofs.Exceeding.{beyond-joined, solid-store, solid-one}
 use Rattle.flute_store.proofs.Common
 use Common.{on_ok_weaker, Full, Same, Over-below, Below-from_Same, Same-sym, content, store_join}
-use Common.{JoinRefusal, OutOfMemory}
+use Common.{JoinRefusal}
 use Rattle.flute_store.proofs.store.Store.join_update.Goals as goal
 
 pub returns-clause-ok : goal.returns-clause-ok
@@ -19,9 +20,7 @@ returns-clause-ok g c =
     c.join_session.ensures.ok)
 
 is_full : (r : Result (Unit {0}) JoinRefusal) → ((r ≡ Err Full → ⊥) → ⊥) → r ≡ Err Full
-is_full (Ok x) h = absurd (h (λ e. cc))
-is_full (Err Full) h = refl
-is_full (Err OutOfMemory) h = absurd (h (λ e. cc))
+is_full = search rules
 
 pub returns-clause-full : goal.returns-clause-full
 returns-clause-full g c =

@@ -4,8 +4,8 @@ use Rattle.flute_store.proofs.store.Store.keeps_order_and_limits.Goals as goal
 
 pub returns-clause-rising : goal.returns-clause-rising
 returns-clause-rising g c = rw (← c.self.view_is) (content-rises c.self.inside.sessions
-    (ordered-store g.row.SESSIONS g.row.OBJECTS c.self.inside.sessions c.self.invariant))
+    (ordered-store g.row.SESSIONS g.row.OBJECTS _ c.self.invariant))
 
 pub returns-clause-within : goal.returns-clause-within
 returns-clause-within g c = rw (← c.self.view_is)
-    (not_over g.row.SESSIONS g.row.OBJECTS c.self.inside.sessions c.self.invariant)
+    (not_over _ _ c.self.inside.sessions c.self.invariant)

@@ -4,12 +4,11 @@ use Rattle.flute_store.proofs.store.Store.objects.Goals as goal
 
 pub new-objects-requires : goal.new-objects-requires
 new-objects-requires g c =
-    rw c.iter.ensures.rest (have-objects g.row.OBJECTS c.self.inside.sessions c.self.invariant.each)
+    rw c.iter.ensures.rest (have-objects g.row.OBJECTS _ c.self.invariant.each)
 
 pub returns-clause-rising : goal.returns-clause-rising
 returns-clause-rising g c = rw (c.new-objects.ensures, c.iter.ensures.rest) (keys_rise
-    c.self.inside.sessions
-    (ordered-store g.row.SESSIONS g.row.OBJECTS c.self.inside.sessions c.self.invariant))
+    c.self.inside.sessions (ordered-store g.row.SESSIONS g.row.OBJECTS _ c.self.invariant))
 
 pub returns-clause-held : goal.returns-clause-held
 returns-clause-held g c = rw (c.new-objects.ensures, c.iter.ensures.rest, ← c.self.view_is)

@@ -1,6 +1,4 @@
 -- Store::status: its loop adds up the symbols of the gaps, by reason.
-use Rattle.std.proofs.Common.{sym, subst}
-use Rattle.flute_store.specs.Status.{TellsStatus}
 use Rattle.flute_store.proofs.{Common.{flat_map, listed}, Runs.{runs-are}}
 use Rattle.flute_store.proofs.HowMany
 use HowMany.{counts-all, counts-few, counts-more, counts-none, few-wanted, first-gap, store-status}
@@ -38,13 +36,4 @@ loop-gap-preserved g c =
 
 pub returns : goal.returns
 returns g c =
-    subst (TellsStatus c.args.self.now c.args.key.now) (sym c.status.ensures)
-    (store-status (record {
-      told = c.in-Some.ensures;
-      info_is = c.in-One.is;
-      held_is = c.iter.ensures.rest;
-      gaps_are = c.new-gaps.ensures.gaps;
-    })
-    c.loop-gap.wanted
-    (counts-all _ _ (rw c.in_default-next.ensures.steps.0 at c.loop-gap.invariant.1)) _
-    c.length.ensures.value)
+    rw c.status.ensures (store-status (record { told = c.in-Some.ensures; info_is = c.in-One.is; held_is = c.iter.ensures.rest; gaps_are = c.new-gaps.ensures.gaps }) c.loop-gap.wanted (counts-all _ _ (rw c.in_default-next.ensures.steps.0 at c.loop-gap.invariant.1)) _ c.length.ensures.value)

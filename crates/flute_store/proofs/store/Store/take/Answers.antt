@@ -1,5 +1,5 @@
 -- Store::take: each clause for a datagram that is refused, or read as a packet.
-use Rattle.std.proofs.Common.{◌≡◌, [], Err, ap, refl}
+use Rattle.std.proofs.Common.{Err, ap, refl}
 use Rattle.flute_wire.proofs.Public.{facts-refused, facts-Spells, packet-iff}
 use Rattle.flute_store.proofs.Common.{facts}
 use Rattle.flute_store.proofs.Counting.{not_over_more}
@@ -8,13 +8,13 @@ use Rattle.flute_store.proofs.store.Store.take.Goals as goal
 
 pub returns-in-Err-clause-full : goal.returns-in-Err-clause-full
 returns-in-Err-clause-full g c =
-    let none : facts c.args.sender c.args.datagram.now ≡ [] =
+    let none =
     facts-refused c.args.sender c.args.datagram.now c.in-Err.refusal
     c.in-Err.ensures.refused.applies in
     rw (← c.self.view_is) (
       (λ e. cc),
       (λ over. absurd (not_over_more g.row.SESSIONS g.row.OBJECTS c.self.inside.sessions
-          c.self.invariant (facts c.args.sender c.args.datagram.now) none over)),
+          c.self.invariant (facts _ _) none over)),
     )
 
 pub returns-in-Err-clause-held : goal.returns-in-Err-clause-held
@@ -22,9 +22,8 @@ returns-in-Err-clause-held g c = λ p s h. let e = (c.in-Err.ensures.packet p).1
 
 pub returns-in-Ok-take_packet-clause-ok : goal.returns-in-Ok-take_packet-clause-ok
 returns-in-Ok-take_packet-clause-ok g c =
-    let told = facts-Spells c.args.sender c.args.datagram.now c.in-Ok.packet
-    c.in-Ok.ensures.spelled in
-    rw told c.in-Ok-take_packet.ensures.ok
+    let told = facts-Spells c.args.sender c.args.datagram.now c.in-Ok.packet c.in-Ok.ensures.spelled
+    in rw told c.in-Ok-take_packet.ensures.ok
 
 pub returns-in-Ok-take_packet-clause-key : goal.returns-in-Ok-take_packet-clause-key
 returns-in-Ok-take_packet-clause-key g c =
@@ -34,15 +33,13 @@ returns-in-Ok-take_packet-clause-key g c =
 
 pub returns-in-Ok-take_packet-clause-number : goal.returns-in-Ok-take_packet-clause-number
 returns-in-Ok-take_packet-clause-number g c =
-    let told = facts-Spells c.args.sender c.args.datagram.now c.in-Ok.packet
-    c.in-Ok.ensures.spelled in
-    rw told c.in-Ok-take_packet.ensures.number
+    let told = facts-Spells c.args.sender c.args.datagram.now c.in-Ok.packet c.in-Ok.ensures.spelled
+    in rw told c.in-Ok-take_packet.ensures.number
 
 pub returns-in-Ok-take_packet-clause-full : goal.returns-in-Ok-take_packet-clause-full
 returns-in-Ok-take_packet-clause-full g c =
-    let told = facts-Spells c.args.sender c.args.datagram.now c.in-Ok.packet
-    c.in-Ok.ensures.spelled in
-    rw told (not_full _ _ _ _ _ c.in-Ok-take_packet.ensures.full)
+    let told = facts-Spells c.args.sender c.args.datagram.now c.in-Ok.packet c.in-Ok.ensures.spelled
+    in rw told (not_full _ _ _ _ _ c.in-Ok-take_packet.ensures.full)
 
 pub returns-in-Err-Full-clause-full : goal.returns-in-Err-Full-clause-full
 returns-in-Err-Full-clause-full g c =
@@ -53,19 +50,15 @@ returns-in-Err-Full-clause-full g c =
 
 pub returns-in-Err-Full-clause-held : goal.returns-in-Err-Full-clause-held
 returns-in-Err-Full-clause-held g c =
-    let told = facts-Spells c.args.sender c.args.datagram.now c.in-Ok.packet
-    c.in-Ok.ensures.spelled in
-    rw told (λ p s h. let e = c.in-Err-Full.ensures.held h in cc)
+    let told = facts-Spells c.args.sender c.args.datagram.now c.in-Ok.packet c.in-Ok.ensures.spelled
+    in rw told (λ p s h. let e = c.in-Err-Full.ensures.held h in cc)
 
 pub returns-in-Err-OutOfMemory-clause-full : goal.returns-in-Err-OutOfMemory-clause-full
 returns-in-Err-OutOfMemory-clause-full g c =
-    let told = facts-Spells c.args.sender c.args.datagram.now c.in-Ok.packet
-    c.in-Ok.ensures.spelled in
-    rw told
-    (λ e. cc, λ over. let full = c.in-Err-OutOfMemory.ensures.full.1 over in cc)
+    let told = facts-Spells c.args.sender c.args.datagram.now c.in-Ok.packet c.in-Ok.ensures.spelled
+    in rw told (λ e. cc, λ over. let full = c.in-Err-OutOfMemory.ensures.full.1 over in cc)
 
 pub returns-in-Err-OutOfMemory-clause-held : goal.returns-in-Err-OutOfMemory-clause-held
 returns-in-Err-OutOfMemory-clause-held g c =
-    let told = facts-Spells c.args.sender c.args.datagram.now c.in-Ok.packet
-    c.in-Ok.ensures.spelled in
-    rw told (λ p s h. let e = c.in-Err-OutOfMemory.ensures.held h in cc)
+    let told = facts-Spells c.args.sender c.args.datagram.now c.in-Ok.packet c.in-Ok.ensures.spelled
+    in rw told (λ p s h. let e = c.in-Err-OutOfMemory.ensures.held h in cc)
