@@ -1,9 +1,10 @@
 -- The bytes that a walk gives are those of the object (specs/BytesLeft, specs/Extract).
+use Rattle.flute_store.proofs.Maps.{Entry}
 use Rattle.std.proofs.Common.{rules}
 use Rattle.std.proofs.Common.{◌≡◌, ℕ, zero, suc, ◌+◌, ◌-◌, List, [], ◌∷◌, ◌++◌, length, take}
 use Rattle.std.proofs.Common.{Option, Some, None, refl, sym, ap, ◌∙◌, arith, append_assoc}
 use Rattle.flute_store.proofs.Lookups.{Above, above-before, blocks_from-all, blocks_from-next}
-use Rattle.flute_store.proofs.Lookups.{blocks_from-end, Entry, value-past, value-here}
+use Rattle.flute_store.proofs.Lookups.{blocks_from-end, value-past, value-here}
 use Rattle.std.{specs.Io.KnownBytes.{Appends}, proofs.KnownBytes.{Appends-trans}}
 use Rattle.std.{specs.Prelude.{MatchOption}, specs.Borrow.{Bor}}
 use Rattle.flute_join.proofs.Public.{not_cons_nil}
@@ -14,12 +15,12 @@ use Rattle.flute_store.proofs.ToldObjects.{ToldGaps, wants-told}
 use Rattle.flute_store.proofs.{WholeObjects.{gapless-whole}, ObjectLength.{object-length}}
 use Rattle.flute_store.proofs.Upcoming.{here, AtHere, AtPassed, Tells, told, others_left}
 use Rattle.flute_store.proofs.Upcoming.{symbols-first, symbols-end, others-above, inside-less}
-use Rattle.flute_store.proofs.Upcoming.{block-left, taken, taken-left}
+use Rattle.flute_store.proofs.Upcoming.{block-left, taken-left}
 use Rattle.flute_join.specs.declared.cell.Cell.TheVariants.{Conflict}
 use Rattle.flute_store.specs.{BytesLeft.{GivesBytes}, Wanted.{want_cell}}
 use Rattle.flute_store.proofs.Common
 use Common.{Cell, One, Information, IsValid, ids, symbol_id, Key}
-use Common.{SymbolId, Fact, Reason, Gap, Object, End, BlockEnd, Passed, Fitting, Wanted, HeldScan}
+use Common.{SymbolId, Fact, Reason, Gap, Object, End, BlockEnd, Fitting, Wanted, HeldScan}
 use Common.{Turn, Whole, object, value_bytes, runs, gaps, symbol_fact, IsTold, wanted}
 use Common.{Walk, at_start, left, all_left, gaps_left, IsWalk, after_pass}
 use Common.{after_take, after_begin, upcoming_of, Keeps, walk_in, bound, IsHeldScan, Turns}
@@ -50,18 +51,11 @@ bytes-here = search (rules, value-here, bytes-past)
 pass-bytes : (w : Walk) → IsWalk w → AtPassed w → bytes_left (after_pass w) ≡ bytes_left w
 unfolding bytes_left
 pass-bytes w p t =
-    let l = inside-less w p t.inside in
-    let a = above-before _ (here w) _ t.before (others-above w p l) in
-    rw (
-      t.held,
-      symbols-first w l,
-      bytes-past t.first t.others (here w ∷ others_left w)
-          (t.before, a),
-    )
+    let l = inside-less w p t.inside in rw (t.held, symbols-first w l, bytes-past t.first _ (here w ∷ others_left w) (t.before, above-before _ (here w) _ t.before (others-above w p l)))
 
 begin-bytes : (w : Walk) → IsWalk w → Tells w BlockEnd → bytes_left (after_begin w) ≡ bytes_left w
 unfolding bytes_left
-begin-bytes = search (rules, blocks_from-next, block-left, symbols-end)
+begin-bytes = search (rules, blocks_from-next, block-left)
 
 take-bytes : (w : Walk) → IsWalk w → (t : AtHere w None)
     → bytes_left w ≡ cell_bytes t.first.1 ++ bytes_left (after_take w)
@@ -82,8 +76,8 @@ no-rest [] b h = h
 no-rest (x ∷ a) b h = absurd (not_cons_nil x _ h)
 
 no-wanted : (v : Walk) (r : Reason) → IsWalk v → all_left v ≡ [] → upcoming_of v ≡ Wanted r → ⊥
-no-wanted v r p h e = not_cons_nil (here v, r) (left (taken _ v))
-    (sym (taken-left None v (Some r) p (told v _ e)) ∙ no-rest _ _ h)
+no-wanted v r p h e = not_cons_nil (here v, r) (left _)
+    (sym (taken-left None v _ p (told v _ e)) ∙ no-rest _ _ h)
 
 -- what a turn gives if nothing is wanted
 pub no-bytes : (v w : HeldScan) (t : Option Turn) → IsHeldScan v → all_left (walk_in v) ≡ []
@@ -101,12 +95,12 @@ same-bytes = search rules
 pub pass-keeps : (v w : HeldScan) → IsHeldScan v → all_left (walk_in v) ≡ []
     → Turns v (Some Turn.Passed) w → KeepsBytes v w
 pass-keeps v w p h s = same-bytes v w s.turns.0 s.walk s.bound_is s.ticks h
-    (ap bytes_left s.turns.2 ∙ pass-bytes _ p.walk (told (walk_in v) Passed s.turns.1))
+    (ap bytes_left s.turns.2 ∙ pass-bytes _ p.walk (told (walk_in v) _ s.turns.1))
 
 pub begin-keeps : (v w : HeldScan) → IsHeldScan v → all_left (walk_in v) ≡ [] → Turns v None w
     → KeepsBytes v w
 begin-keeps v w p h s = same-bytes v w s.turns.0 s.walk s.bound_is s.ticks h
-    (ap bytes_left s.turns.2 ∙ begin-bytes _ p.walk (told (walk_in v) BlockEnd s.turns.1))
+    (ap bytes_left s.turns.2 ∙ begin-bytes _ p.walk (told (walk_in v) _ s.turns.1))
 
 pub keeps-on : (u v w : HeldScan) → KeepsBytes u v → KeepsBytes v w → KeepsBytes u w
 keeps-on = search rules
@@ -117,23 +111,16 @@ pub gives-first : (u v w : HeldScan) {e : Entry} {es : List Entry} (value : Opti
     (e.1 ≡ Conflict) (λ bytes. (e.1 ≡ One bytes.now) × HasSymbolSize bytes.now) → GivesBytes u value
     w
 gives-first u v w {e} {es} None k h s m =
-    let t = told (walk_in v) Fitting s.turns.1 in
-    let f : t.first ≡ e = let held = sym t.held ∙ h in cc in
-    let at = here (walk_in v) in
-    let why = ap (λ (x : Entry). want_cell v.walk.partition at (Some x.1)) f
-    ∙ ap (λ c. want_cell v.walk.partition at (Some c)) m in
-    let none = sym why ∙ t.why_is in
-    absurd cc
+    let t = told (walk_in v) Fitting s.turns.1 in let f : t.first ≡ e = let held = sym t.held ∙ h in cc in let at = here (walk_in v) in let why = ap (λ (x : Entry). want_cell v.walk.partition at (Some x.1)) f ∙ ap (λ c. want_cell v.walk.partition at (Some c)) m in absurd cc
 gives-first u v w {e} {es} (Some bytes) k h s m =
-    let t = told (walk_in v) Fitting s.turns.1 in
-    let f : t.first ≡ e = let held = sym t.held ∙ h in cc in
+    let t = told (walk_in v) _ s.turns.1 in
+    let f : t.first ≡ e = cc in
     record {
       walk = s.walk;
       whole = s.turns.0.left_is ∙ k.whole;
-      first =
-          sym k.bytes ∙ take-bytes (walk_in v) k.walk.walk t
-          ∙ (λ i. cell_bytes (f i).1 ++ bytes_left (sym s.turns.2 i))
-          ∙ ap (λ c. cell_bytes c ++ bytes_left (walk_in w)) m.0;
+      first = sym k.bytes ∙ take-bytes (walk_in v) k.walk.walk t ∙
+          (λ i. cell_bytes (f i).1 ++ bytes_left (sym s.turns.2 i)) ∙ ap
+          (λ c. cell_bytes c ++ bytes_left (walk_in w)) m.0;
       bound_is = s.bound_is ∙ k.bound_is;
       ticked = omega arith;
     }
@@ -174,7 +161,7 @@ pub record Cuts (left x more : List ℕ) (n : ℕ) (b : List ℕ) : Type 0 where
 -- what comes after the first bytes that are written
 cut-left : (w : List ℕ) {all left x more b : List ℕ} {n : ℕ} → all ≡ w ++ take n left
     → Cuts left x more n b → all ≡ (w ++ b) ++ take (n - length b) more
-cut-left w {all} {left} {x} {more} {b} {n} h c = rw (h, c.left_is, take-both n x more, ← c.bytes_are, ← append_assoc w b (take (n - length b) more))
+cut-left w {all} {left} {x} {more} {b} {n} h c = rw (h, c.left_is, take-both n x more, ← c.bytes_are, ← append_assoc w b (take _ more))
 
 -- the first bytes of what is left are written
 pub writing-more : {old now new : Option (List ℕ)} {all left x more b : List ℕ} {n : ℕ}
@@ -190,7 +177,7 @@ writing-more {old} {now} {new} {all} {left} {x} {more} {b} w c a = record {
 pub writing-fails : {old now : Option (List ℕ)} (new : Option (List ℕ)) {all left x more b : List ℕ}
     {n : ℕ} → IsWriting old now all (take n left) → Cuts left x more n b → AppendsPart now new b
     → AppendsPart old new all
-writing-fails {old} {now} new {all} {left} {x} {more} {b} {n} w c a = rw (cut-left w.part w.whole c) (AppendsPart-first old new (w.part ++ b) (take (n - length b) more) (AppendsPart-second old now new w.part b w.appended a))
+writing-fails {old} {now} new {all} {left} {x} {more} {b} {n} w c a = rw (cut-left w.part w.whole c) (AppendsPart-first _ new (w.part ++ b) _ (AppendsPart-second old now _ w.part b w.appended a))
 
 -- ---- the whole object, from its held symbols
 
@@ -228,7 +215,7 @@ module _ {n : ℕ} {F : List Fact} {key : Key} {x : Object n} {info : Informatio
   -- the bytes that a walk from the start gives are those of the object
   told-bytes : {walk : Walk} {length : ℕ} (again : List Entry) → again ≡ x.symbols → walk ≡ at_start
       info again → length ≡ info.transfer_length → take length (bytes_left walk) ≡ object F key info
-  told-bytes {walk} {length} again a start l = rw (l, ap bytes_left start ∙ bytes-start info again, a, ← object-told F key x info t.told)
+  told-bytes {walk} {length} again a start l = rw (l, ap bytes_left start ∙ bytes-start info again, a, ← object-told F _ x info t.told)
 
   -- what is written by it: the whole object, or a prefix of it
   module _ {W : Type 0} {written : W → Option (List ℕ)} {old new : W} {walk : Walk}

@@ -1,4 +1,5 @@
 -- How many sessions, objects and symbols the content of a store names (specs/Content).
+use Rattle.flute_store.proofs.Maps.{Objects, Sessions}
 use Rattle.std.proofs.Common.{rules}
 use Rattle.std.proofs.Common.{append-nil, ◌≡◌, ◌≢◌, ℕ, ◌≤◌, List, [], ◌∷◌, ◌++◌, length, Bool, true}
 use Rattle.std.proofs.Common.{Option, Some, None, refl, sym, ap, ◌∙◌, subst, arith}
@@ -9,9 +10,9 @@ use Rattle.flute_store.proofs.StoreJoin.{objects_apart, sessions_apart, object-s
 use Rattle.flute_parts.proofs.Public.{object_of-some}
 use Rattle.flute_store.proofs.Common
 use Common.{Ordering, is_eq, option_map_or, keys_of, length-keys_of, none-some, same_Some, Session}
-use Common.{ObjectName, Key, SymbolId, Address, Fact, session_cmp, object_cmp, symbol_id_cmp}
+use Common.{Key, SymbolId, Address, Fact, session_cmp, object_cmp, symbol_id_cmp}
 use Common.{same_symbol_id, same_session, same_object, symbol_address, address, fact_at, firsts}
-use Common.{named, session_of, object_of, symbol_of, sessions, objects, symbols, Over}
+use Common.{named, object_of, symbol_of, sessions, objects, symbols, Over}
 use Common.{Tells, has, has-firsts, Distinct}
 use Common.{Distinct-firsts, length-Distinct, Member, fact_at-member_some, named-member}
 use Common.{named-names, session_tells, object_tells, symbol_id_tells, value_at, each-value_at}
@@ -68,12 +69,12 @@ named_symbol key a x e = search rules
 
 module _ {n : ℕ} where
   -- ---- the value at an address
-  pub at-content : (m : List (Session × List (ObjectName × Object n))) (a : Address) → OrderedStore
+  pub at-content : (m : Sessions n) (a : Address) → OrderedStore
       m → fact_at (content m) a ≡ option_map_or (λ os. fact_at (session_facts a.key.session os) a)
       (value_at session_cmp m a.key.session) None
-  at-content m a p = at-entries session_keys in_store a a.key.session (sessions_apart a) m p.ordered
+  at-content m a p = at-entries session_keys in_store a _ (sessions_apart a) m p.ordered
 
-  pub at-session : (os : List (ObjectName × Object n)) (a : Address) → OrderedSession os
+  pub at-session : (os : Objects n) (a : Address) → OrderedSession os
       → fact_at (session_facts a.key.session os) a
       ≡ option_map_or (λ x. fact_at (object_facts (key_in a.key.session a.key.object) x) a)
       (value_at object_cmp os a.key.object) None
@@ -87,12 +88,12 @@ module _ {n : ℕ} where
 
   -- the content has no value at an address of a session that is not held; at an address of a held
   -- object it has the object's value
-  module _ {m : List (Session × List (ObjectName × Object n))} (q : OrderedStore m) where
+  module _ {m : Sessions n} (q : OrderedStore m) where
     pub at-unheard : (a : Address) → value_at session_cmp m a.key.session ≡ None
         → fact_at (content m) a ≡ None
     at-unheard = search (rules, at-content)
 
-    module _ (key : Key) {os : List (ObjectName × Object n)}
+    module _ (key : Key) {os : Objects n}
         (f : value_at session_cmp m key.session ≡ Some os) where
       pub at-found : (part : Part) (found : Option (Object n)) → value_at object_cmp os key.object ≡
           found → fact_at (content m) (record { key = key; part = part }) ≡ option_map_or
@@ -110,12 +111,7 @@ module _ {n : ℕ} where
             x.symbols id ≡ found → fact_at (content m) (symbol_address key id) ≡ option_map_or
             (λ c. fact_at (symbol_cell_facts key id c) (symbol_address key id)) found None
         at-symbol id found g =
-            let session = each-value_at session_cmp OrderedSession m key.session _ q.each f in
-            at-found _ _ h
-            ∙ at-object x _ _ (each-value_at object_cmp OrderedObject os key.object x
-            session.each h)
-            ∙ ap (λ z. option_map_or (λ c. fact_at (symbol_cell_facts key id c)
-            (symbol_address key id)) z None) g
+            at-found _ _ h ∙ at-object x _ _ (each-value_at object_cmp OrderedObject os key.object x (each-value_at session_cmp OrderedSession m key.session _ q.each f).each h) ∙ ap (λ z. option_map_or (λ c. fact_at (symbol_cell_facts key id c) (symbol_address key id)) z None) g
 
         -- no more symbols are named than are held
         pub symbols-held : length (symbols (content m) key) ≤ length x.symbols
@@ -129,7 +125,7 @@ module _ {n : ℕ} where
             (arith, c, length-keys_of x.symbols)
 
   -- ---- a store within its limits names no more
-  module _ (s o : ℕ) (m : List (Session × List (ObjectName × Object n))) (p : IsStore s o m) where
+  module _ (s o : ℕ) (m : Sessions n) (p : IsStore s o m) where
     q : OrderedStore m
     q = ordered-store s o m p
 
@@ -137,14 +133,14 @@ module _ {n : ℕ} where
     unfolding sessions
     few_sessions =
         let c =
-        count-Below same_session session_tells session_of (content m) (keys_of m) (λ x a k e.
-        let found = some-value (value_at session_cmp m a.key.session) (λ z. k (at-unheard q a z)) in
-        value_at-has session_cmp session_tells m x found.0
+        count-Below same_session session_tells _ (content m) (keys_of m) (λ x a k e.
+        let found = some-value _ (λ z. k (at-unheard q a z)) in
+        value_at-has session_cmp session_tells m x _
         (subst (λ q. value_at session_cmp m q ≡ Some found.0) (same_Some a.key.session x e)
         found.1)) in
-        omega (arith, c, length-keys_of m)
+        omega (arith, length-keys_of m)
 
-    few_objects_of : (session : Session) (found : Option (List (ObjectName × Object n)))
+    few_objects_of : (session : Session) (found : Option (Objects n))
         → value_at session_cmp m session ≡ found → length (objects (content m) session) ≤ o
     unfolding objects
     few_objects_of session None f =
@@ -161,7 +157,7 @@ module _ {n : ℕ} where
         (subst (λ z. value_at object_cmp os z ≡ Some found.0) r.1 found.1)) in omega
         (arith, c, length-keys_of os)
 
-    few_in : (key : Key) (os : List (ObjectName × Object n)) → value_at session_cmp m key.session ≡
+    few_in : (key : Key) (os : Objects n) → value_at session_cmp m key.session ≡
         Some os → IsSession o os → (found : Option (Object n)) → value_at object_cmp os key.object ≡
         found → length (symbols (content m) key) ≤ n
     unfolding symbols
@@ -170,20 +166,18 @@ module _ {n : ℕ} where
         (fact_at (content m)) (named_symbol key a x e) ∙ at-found q key f (SymbolPart x) None h) in
         omega (arith, c)
     few_in key os f sound (Some v) h =
-        let known = each-value_at object_cmp IsObject os key.object v sound.each h in
-        let c = symbols-held q key f h in
-        omega (arith, c, known.symbols_are.within)
+        omega (arith, symbols-held q key f h, (each-value_at object_cmp IsObject os key.object v sound.each h).symbols_are.within)
 
     -- no object names more symbols than the limit
-    few_symbols_of : (key : Key) (found : Option (List (ObjectName × Object n)))
+    few_symbols_of : (key : Key) (found : Option (Objects n))
         → value_at session_cmp m key.session ≡ found → length (symbols (content m) key) ≤ n
     unfolding symbols
     few_symbols_of key None f =
-        let c = none-named same_symbol_id symbol_id_tells (symbol_of _) (content m) (λ x a e. ap
-        (fact_at (content m)) (named_symbol key a x e) ∙ at-unheard q (symbol_address _ x) f) in
-        omega (arith, c)
+        let c = none-named same_symbol_id symbol_id_tells _ (content m) (λ x a e. ap
+        (fact_at _) (named_symbol key a x e) ∙ at-unheard q (symbol_address _ x) f) in
+        omega (arith)
     few_symbols_of key (Some os) f = few_in _ _ f
-        (each-value_at session_cmp (IsSession o) m key.session _ p.each f) _ refl
+        (each-value_at session_cmp _ m key.session _ p.each f) _ refl
 
     pub not_over : Over (content m) s o n → ⊥
     not_over = search (rules, few_sessions, few_objects_of, value_at, few_symbols_of) steps 300000

@@ -1,11 +1,12 @@
 -- A store beyond the limits names more sessions, objects or symbols than they allow (specs/Beyond).
+use Rattle.flute_store.proofs.Maps.{Entry, Objects, Sessions}
 use Rattle.std.proofs.Common.{rules}
 use Rattle.std.proofs.Common.{◌≡◌, ◌≢◌, ℕ, ◌<◌, ◌≤◌, List, [], ◌∷◌, ◌++◌, length, true, false, cond}
 use Rattle.std.proofs.Common.{Option, Some, None, refl, sym, ap, ◌∙◌, subst, inl, inr, ◌⊎◌}
 use Rattle.std.proofs.Common.{arith}
 use Rattle.flute_store.proofs.FactEntries.{AreMaps, at-one_here}
-use Rattle.flute_store.proofs.OnePair.{symbols_joined, objects_joined, any-value_at, absent-right}
-use Rattle.flute_store.proofs.OnePair.{some-right, known-join}
+use Rattle.flute_store.proofs.OnePair.{symbols_joined, objects_joined, any-value_at}
+use Rattle.flute_store.proofs.OnePair.{some-right}
 use Rattle.flute_store.proofs.StoreJoin.{one_object, EachValue-weaker}
 use Rattle.flute_store.proofs.StoreJoin.{OrderedSession, OrderedStore, content-join}
 use Rattle.flute_store.proofs.Counting.{count-ge, at-info, at-symbol}
@@ -32,39 +33,30 @@ module _ {n : ℕ} where
     pub each : EachValue IsKnown x.symbols
     pub some : x.info ≡ Absent → x.symbols ≢ []
 
-  pub record SolidSession (os : List (ObjectName × Object n)) : Type 0 where
+  pub record SolidSession (os : Objects n) : Type 0 where
     pub ordered : IsOrdered object_cmp os
     pub each : EachValue SolidObject os
     pub some : os ≢ []
 
-  pub record SolidStore (m : List (Session × List (ObjectName × Object n))) : Type 0 where
+  pub record SolidStore (m : Sessions n) : Type 0 where
     pub ordered : IsOrdered session_cmp m
     pub each : EachValue SolidSession m
 
   solid_object : (x : Object n) → IsObject x → SolidObject x
   solid_object = search rules
 
-  solid_session : (o : ℕ) (os : List (ObjectName × Object n)) → IsSession o os → SolidSession os
+  solid_session : (o : ℕ) (os : Objects n) → IsSession o os → SolidSession os
   solid_session = search (rules, EachValue-weaker, solid_object)
 
-  pub solid-store : (s o : ℕ) (m : List (Session × List (ObjectName × Object n))) → IsStore s o m
-      → SolidStore m
+  pub solid-store : (s o : ℕ) (m : Sessions n) → IsStore s o m → SolidStore m
   solid-store = search (rules, EachValue-weaker, solid_session)
 
   -- joins of solid objects, sessions and stores are solid
   object-solid : (v w : Object n) → SolidObject v → SolidObject w → SolidObject (object_join v w)
-  object-solid = search (
-    rules,
-    ordered-map_join,
-    EachValue-map_join,
-    known-join,
-    some-right,
-    symbols_joined,
-    absent-right,
-    same_information,
-  )
+  object-solid = search
+      (rules, ordered-map_join, EachValue-map_join, some-right, symbols_joined, same_information)
 
-  session-solid : (v w : List (ObjectName × Object n)) → SolidSession v → SolidSession w
+  session-solid : (v w : Objects n) → SolidSession v → SolidSession w
       → SolidSession (session_join v w)
   session-solid v w p q = record {
     ordered = ordered-map_join object_total _ v w p.ordered q.ordered;
@@ -72,8 +64,7 @@ module _ {n : ℕ} where
     some = some-right (objects_joined n) v w q.some;
   }
 
-  pub solid-join : (v w : List (Session × List (ObjectName × Object n))) → SolidStore v
-      → SolidStore w → SolidStore (store_join v w)
+  pub solid-join : (v w : Sessions n) → SolidStore v → SolidStore w → SolidStore (store_join v w)
   solid-join v w p q = record {
     ordered = ordered-map_join session_total _ v w p.ordered q.ordered;
     each = EachValue-map_join _ _ _ session-solid v w p.each q.each;
@@ -139,30 +130,29 @@ cell_stands = search (rules, none-some, at-one_here)
 known_or_absent : {T : Type 0} (c : Cell T) → (c ≡ Absent) ⊎ IsKnown c
 known_or_absent = grind arith
 
-ordered_session : {n : ℕ} (os : List (ObjectName × Object n)) → SolidSession os → OrderedSession os
+ordered_session : {n : ℕ} (os : Objects n) → SolidSession os → OrderedSession os
 ordered_session = search (rules, EachValue-weaker)
 
 -- The content of a solid store names at least as many as its maps hold.
-module _ {n : ℕ} {m : List (Session × List (ObjectName × Object n))} (p : SolidStore m) where
+module _ {n : ℕ} {m : Sessions n} (p : SolidStore m) where
   pub ordered_store : OrderedStore m
   ordered_store = search (rules, EachValue-weaker, ordered_session)
 
-  module _ (s : Session) {os : List (ObjectName × Object n)}
+  module _ (s : Session) {os : Objects n}
       (f : value_at session_cmp m s ≡ Some os) where
     q : SolidSession os
     q = each-value_at session_cmp SolidSession m s _ p.each f
 
     module _ (o : ObjectName) {x : Object n} (h : value_at object_cmp os o ≡ Some x) where
       r : SolidObject x
-      r = each-value_at object_cmp SolidObject os o x q.each h
+      r = each-value_at object_cmp SolidObject _ o x q.each h
 
       pub symbol_stands : (id : SymbolId) {c : Cell (List ℕ)} → value_at symbol_id_cmp x.symbols id
           ≡ Some c → IsKnown c → fact_at (content m) (symbol_address (key_in s o) id) ≢ None
       symbol_stands id {c} g k e =
-          let key = key_in s o in
-          cell_stands key id c k (sym (at-symbol ordered_store _ f h _ _ g) ∙ e)
+          cell_stands (key_in s o) id c k (sym (at-symbol ordered_store _ f h _ _ g) ∙ e)
 
-      first_stands : (es : List (SymbolId × Cell (List ℕ))) → es ≡ x.symbols → es ≢ []
+      first_stands : (es : List Entry) → es ≡ x.symbols → es ≢ []
           → (part : Part) × (fact_at (content m) (record { key = key_in s o; part = part }) ≢ None)
       first_stands [] e h = absurd (h refl)
       first_stands (d ∷ es) e h =
@@ -177,11 +167,7 @@ module _ {n : ℕ} {m : List (Session × List (ObjectName × Object n))} (p : So
           (fact_at (content m) (record { key = key_in s o; part = part }) ≢ None)
       object_stands = elim (known_or_absent x.info) [
         | inl e ↦ first_stands _ refl (r.some e)
-        | inr k ↦ (
-          InfoPart,
-          λ e. info_stands (key_in s o) _ k
-              (sym (at-info ordered_store _ f h) ∙ e),
-        )
+        | inr k ↦ (InfoPart, λ e. info_stands _ _ k (sym (at-info ordered_store _ f h) ∙ e))
       ]
 
       pub symbols_named : length x.symbols ≤ length (symbols (content m) (key_in s o))
@@ -189,19 +175,11 @@ module _ {n : ℕ} {m : List (Session × List (ObjectName × Object n))} (p : So
       symbols_named =
           let key = key_in s o in
           let c = count-ge same_symbol_id symbol_id_tells (symbol_of _) (content m) (keys_of _)
-          (distinct _ symbol_id_tells _ r.ordered) (λ id k. let found = has-value_at symbol_id_total
-          symbol_id_tells x.symbols id k in
-          let known = each-value_at symbol_id_cmp IsKnown x.symbols id found.0 r.each found.1 in (
-            symbol_address key id,
-            symbol_stands id found.1 known,
-            ap (λ b. cond b (Some id) None)
-                (key_itself key),
-          )) in omega (arith, c, length-keys_of x.symbols)
+          (distinct _ symbol_id_tells _ r.ordered) (λ id k. let found = has-value_at symbol_id_total symbol_id_tells x.symbols id k in (symbol_address key id, symbol_stands id found.1 (each-value_at symbol_id_cmp IsKnown x.symbols id found.0 r.each found.1), ap (λ b. cond b (Some id) None) (key_itself key))) in omega (arith, c, length-keys_of x.symbols)
 
     -- a session with an object has an address with a value
-    pub first_object : (es : List (ObjectName × Object n)) → es ≡ os → es ≢ [] → (key : Key) ×
-        (part : Part) × (key.session ≡ s) ×
-        (fact_at (content m) (record { key = key; part = part }) ≢ None)
+    pub first_object : (es : Objects n) → es ≡ os → es ≢ [] → (key : Key) × (part : Part) ×
+        (key.session ≡ s) × (fact_at (content m) (record { key = key; part = part }) ≢ None)
     first_object [] e h = absurd (h refl)
     first_object (d ∷ es) e h =
         let stands = object_stands _ (subst (λ l. value_at object_cmp l d.0 ≡ Some d.1) e
@@ -212,41 +190,26 @@ module _ {n : ℕ} {m : List (Session × List (ObjectName × Object n))} (p : So
     unfolding objects
     objects_named =
         let c = count-ge same_object object_tells (object_of s) (content m) (keys_of _)
-        (distinct _ object_tells _ q.ordered) (λ k h. let found = has-value_at object_total
-        object_tells os k h in
-        let stands = object_stands k found.1 in (
-          record { key = key_in s k; part = stands.0 },
-          stands.1,
-          ap (λ b. cond b (Some k) None)
-              (session_itself s),
-        )) in omega (arith, c, length-keys_of os)
+        (distinct _ object_tells _ q.ordered) (λ k h. let stands = object_stands k (has-value_at object_total object_tells os k h).1 in (record { key = key_in s k; part = stands.0 }, stands.1, ap (λ b. cond b (Some k) None) (session_itself s))) in omega (arith, c, length-keys_of os)
 
   -- and at least as many session names as held sessions
   sessions_named : length m ≤ length (sessions (content m))
   unfolding sessions
   sessions_named =
       let c = count-ge same_session session_tells session_of (content m) (keys_of m)
-      (distinct session_cmp session_tells (keys_of m) p.ordered) (λ k h. let found = has-value_at
-      session_total session_tells m k h in
-      let solid = each-value_at session_cmp SolidSession m k found.0 p.each found.1 in
-      let stands = first_object k found.1 found.0 refl solid.some in
-      (record { key = stands.0; part = stands.1 }, stands.3, ap Some stands.2)) in omega
+      (distinct session_cmp session_tells (keys_of m) p.ordered) (λ k h. let found = has-value_at session_total session_tells m k h in let stands = first_object k found.1 found.0 refl (each-value_at session_cmp SolidSession m k found.0 p.each found.1).some in (record { key = stands.0; part = stands.1 }, stands.3, ap Some stands.2)) in omega
       (arith, c, length-keys_of m)
 
   -- a session beyond the limits of objects or symbols: its facts are over them
-  in_object : (s o : ℕ) (session : Session) (os : List (ObjectName × Object n))
+  in_object : (s o : ℕ) (session : Session) (os : Objects n)
       → value_at session_cmp m session ≡ Some os → SessionBeyond o os → Over (content m) s o n
   in_object s o session os f (inl l) =
-      (let c = objects_named session f in more_objects session (omega (arith, c, l)))
+      (more_objects session (omega (arith, objects_named session f, l)))
   in_object s o session os f (inr a) =
-      let solid = each-value_at session_cmp SolidSession m session os p.each f in
-      let found = any-value object_total object_tells ObjectBeyond os solid.ordered a in
-      let c = symbols_named session f found.0 found.2 in
-      let l = found.3 in
-      more_symbols (key_in session found.0) (omega (arith, c, l))
+      let found = any-value object_total object_tells ObjectBeyond os (each-value_at session_cmp SolidSession m session os p.each f).ordered a in more_symbols (key_in session found.0) (omega (arith, symbols_named session f found.0 found.2, found.3))
 
   pub beyond-over_at : (s o : ℕ) → StoreBeyond s o m → Over (content m) s o n
-  beyond-over_at s o (inl l) = (let c = sessions_named in more_sessions (omega (arith, c, l)))
+  beyond-over_at s o (inl l) = (more_sessions (omega (arith, sessions_named, l)))
   beyond-over_at s o (inr a) =
       let found = any-value session_total session_tells (SessionBeyond o) m p.ordered a in
       in_object s o found.0 found.1 found.2 found.3
@@ -259,23 +222,23 @@ module _ {K X : Type 0} {cmp : K → K → Ordering} (order : IsTotalOrder cmp) 
       es fs → (limit < length (map_join cmp join es fs)) ⊎ AnyValue B (map_join cmp join es fs)
   map_over-beyond m (inl l) = inl l
   map_over-beyond {es} {fs} m (inr (q, v, w, f, g, o)) =
-      inr (any-value_at cmp B _ q (join v w)
+      inr (any-value_at cmp B _ q _
       (value_at-map_join order _ _ _ q m.first m.second ∙ (λ i. join_values join (f i) (g i)))
       (beyond v w (each-value_at cmp P es q v m.first_each f)
-      (each-value_at cmp P fs q w m.second_each g) o))
+      (each-value_at cmp P _ q w m.second_each g) o))
 
 module _ {n : ℕ} where
   object_over : (v w : Object n) → SolidObject v → SolidObject w → ObjectOver v w
       → ObjectBeyond (object_join v w)
   object_over = search rules
 
-  session_over : (o : ℕ) (v w : List (ObjectName × Object n)) → SolidSession v → SolidSession w
+  session_over : (o : ℕ) (v w : Objects n) → SolidSession v → SolidSession w
       → MapOver object_cmp object_join o ObjectOver v w → SessionBeyond o (session_join v w)
   session_over o v w p q h = map_over-beyond object_total _ o _ _ object_over
       (record { first = p.ordered; second = q.ordered; first_each = p.each; second_each = q.each })
       h
 
-  pub over-beyond : (s o : ℕ) (v w : List (Session × List (ObjectName × Object n))) → SolidStore v →
+  pub over-beyond : (s o : ℕ) (v w : Sessions n) → SolidStore v →
       SolidStore w → MapOver session_cmp session_join s
       (MapOver object_cmp object_join o ObjectOver) v w → StoreBeyond s o (store_join v w)
   over-beyond s o v w p q h = map_over-beyond session_total _ s _ _ (session_over o)
@@ -283,7 +246,7 @@ module _ {n : ℕ} where
       h
 
   -- a join beyond the limits is of facts over them
-  pub beyond-joined : (s o : ℕ) (v w : List (Session × List (ObjectName × Object n))) → SolidStore v
+  pub beyond-joined : (s o : ℕ) (v w : Sessions n) → SolidStore v
       → SolidStore w → StoreBeyond s o (store_join v w) → Over (content v ++ content w) s o n
   beyond-joined s o v w p q b = Over-below (content (store_join v w)) (content v ++ content w) s o n
       (Below-from_Same _ _ (content-join v w (ordered_store p) (ordered_store q)))

@@ -37,8 +37,7 @@ not_same a b n = search rules
 pub elsewhere-none : (a : Address) (F : List Fact) → Elsewhere a F → fact_at F a ≡ None
 elsewhere-none a [] h = fact_at-nil a
 elsewhere-none a (f ∷ F) h =
-    let apart = at-one_elsewhere f a (not_same _ a h.0) in
-    rw (fact_at-append (f ∷ []) F a, apart) (elsewhere-none a F h.1)
+    rw (fact_at-append (f ∷ []) F a, at-one_elsewhere f a (not_same _ a h.0)) (elsewhere-none a F h.1)
 
 pub each-append : {X : Type 0} (P : X → Type 0) (xs ys : List X) → AllByRecursion P xs
     → AllByRecursion P ys → AllByRecursion P (xs ++ ys)
@@ -131,10 +130,7 @@ module _ {K X : Type 0} {cmp : K → K → Ordering} (keys : AreKeys cmp) (f : K
       let more = at-entries es (sorted_tail _ _ _ s) in
       let both = fact_at-append (f e) (flat_map f es) a in
       elim (cases_Bool (is_at (cmp q) e.0)) [
-        | inl t ↦ let here = keys.same q e.0 ((Equal-is (cmp q e.0)).0 t) in
-            let none = rw (absent_past keys.order e es q s t) at more in
-            rw (t, both, none, joined-none a (fact_at (f e) a))
-            (ap (λ k. fact_at (f (k, e.1)) a) (sym here))
+        | inl t ↦ rw (t, both, rw (absent_past keys.order e es q s t) at more, joined-none a (fact_at (f e) a)) (ap (λ k. fact_at (f (k, e.1)) a) (sym (keys.same q e.0 ((Equal-is (cmp q e.0)).0 t))))
         | inr t ↦ rw (t, both, elsewhere-none a (f e) (apart e (not_at e t))) more
       ]
 

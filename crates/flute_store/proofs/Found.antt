@@ -1,4 +1,5 @@
 -- Whether an address has a value in a store's content, and what the content says of an object.
+use Rattle.flute_store.proofs.Maps.{Objects, Sessions}
 use Rattle.std.proofs.Common.{◌≡◌, ◌≢◌, ℕ, List, [], ◌∷◌, ◌++◌, Bool, true, false, Option, Some}
 use Rattle.std.proofs.Common.{None, refl, ap, ◌∙◌, sym, arith}
 use Rattle.flute_store.proofs.FactEntries.{at-one_here}
@@ -8,7 +9,7 @@ use Rattle.flute_store.proofs.Counting.{symbols-held}
 use Rattle.flute_store.proofs.Exceeding.{solid-store, object_stands, symbols_named}
 use Rattle.flute_store.proofs.Common
 use Common.{is_some, option_map_or, IsKnown, value_at, EachValue, each-value_at, Cell, Absent, One}
-use Common.{Conflict, Information, Session, ObjectName, Key, SymbolId, SymbolPart, Address, Fact}
+use Common.{Conflict, Information, Key, SymbolId, SymbolPart, Address, Fact}
 use Common.{Info, InfoConflict, Symbol, SymbolConflict, session_cmp, object_cmp, symbol_id_cmp}
 use Common.{info_address, symbol_address, fact_at, fact_at-nil, Object, info_cell_facts}
 use Common.{symbol_cell_facts, symbols_facts, content, IsObject, IsSession, IsStore, update_symbols}
@@ -25,18 +26,18 @@ info-held : (key : Key) (c : Cell Information)
     → is_some (fact_at (info_cell_facts key c) (info_address key)) ≡ is_known c
 info-held key Absent = rw (fact_at-nil (info_address key))
 info-held key (One i) = rw (at-one_here (Info key i))
-info-held key Conflict = rw (at-one_here (InfoConflict key))
+info-held key Conflict = rw (at-one_here (InfoConflict _))
 
 symbol-held : (key : Key) (id : SymbolId) (c : Cell (List ℕ))
     → is_some (fact_at (symbol_cell_facts key id c) (symbol_address key id)) ≡ is_known c
-symbol-held key id Absent = rw (fact_at-nil (symbol_address key id))
-symbol-held key id (One b) = rw (at-one_here (Symbol key id b))
-symbol-held key id Conflict = rw (at-one_here (SymbolConflict key id))
+symbol-held key id Absent = rw (fact_at-nil (symbol_address key _))
+symbol-held key id (One b) = rw (at-one_here (Symbol key _ b))
+symbol-held key id Conflict = rw (at-one_here (SymbolConflict key _))
 
 pub known-is : {T : Type 0} (c : Cell T) → IsKnown c → is_known c ≡ true
 known-is = grind arith
 
-module _ {n s o : ℕ} {m : List (Session × List (ObjectName × Object n))} (p : IsStore s o m) where
+module _ {n s o : ℕ} {m : Sessions n} (p : IsStore s o m) where
   in_order : OrderedStore m
   in_order = ordered-store s o m p
 
@@ -50,9 +51,9 @@ module _ {n s o : ℕ} {m : List (Session × List (ObjectName × Object n))} (p 
       found None) ≡ is_some found
   of_symbol key id x None a f = refl
   of_symbol key id x (Some c) a f =
-      symbol-held _ _ c ∙ known-is c (each-value_at symbol_id_cmp _ _ id c a f)
+      symbol-held _ _ c ∙ known-is c (each-value_at symbol_id_cmp _ _ _ c a f)
 
-  module _ {os : List (ObjectName × Object n)} where
+  module _ {os : Objects n} where
     pub no_object : (a : Address) → value_at session_cmp m a.key.session ≡ Some os
         → value_at object_cmp os a.key.object ≡ None → is_some (fact_at (content m) a) ≡ false
     no_object a f h = rw (at-found in_order a.key f a.part None h)
@@ -60,7 +61,7 @@ module _ {n s o : ℕ} {m : List (Session × List (ObjectName × Object n))} (p 
     pub of_info : (key : Key) {x : Object n} → value_at session_cmp m key.session ≡ Some os
         → value_at object_cmp os key.object ≡ Some x
         → is_some (fact_at (content m) (info_address key)) ≡ is_known x.info
-    of_info key {x} f h = rw (at-info in_order key f h, info-held key x.info)
+    of_info key {x} f h = rw (at-info in_order key f h, info-held _ x.info)
 
     pub of_symbols : (key : Key) (id : SymbolId) {x : Object n}
         → value_at session_cmp m key.session ≡ Some os → value_at object_cmp os key.object ≡ Some x
@@ -73,14 +74,12 @@ module _ {n s o : ℕ} {m : List (Session × List (ObjectName × Object n))} (p 
         _ x _ sound.symbols_are.each refl
 
   -- if an address has a value, its session and its object are held
-  pub object_held : (key : Key) → HoldsObject (content m) key → (os : List (ObjectName × Object n))
-      × (x : Object n) × (value_at session_cmp m key.session ≡ Some os) ×
-      (value_at object_cmp os key.object ≡ Some x)
+  pub object_held : (key : Key) → HoldsObject (content m) key → (os : Objects n) × (x : Object n) ×
+      (value_at session_cmp m key.session ≡ Some os) × (value_at object_cmp os key.object ≡ Some x)
   object_held key (part, h) =
       let session = some-value _
       (λ z. h (at-unheard in_order (record { key = key; part = part }) z)) in
-      let object = some-value (value_at object_cmp session.0 key.object)
-      (λ z. h (at-found in_order key session.1 part None z)) in
+      let object = some-value _ (λ z. h (at-found in_order _ session.1 part _ z)) in
       (session.0, object.0, session.1, object.1)
 
   held_symbol : (key : Key) (id : SymbolId) (told : SymbolUpdate)
@@ -133,32 +132,20 @@ pub known-fact : (key : Key) (id : SymbolId) (c : Cell (List ℕ)) → IsKnown c
     → symbol_fact key id (Some c) ≢ None
 known-fact = grind arith
 
-module _ {n s o : ℕ} {m : List (Session × List (ObjectName × Object n))} (p : IsStore s o m)
+module _ {n s o : ℕ} {m : Sessions n} (p : IsStore s o m)
     (key : Key) where
   pub unheard-session : value_at session_cmp m key.session ≡ None → IsUnheard (content m) key
   unheard-session f part = at-unheard (ordered-store s o m p) (record { key = key; part = part }) f
 
-  module _ {os : List (ObjectName × Object n)}
+  module _ {os : Objects n}
       (f : value_at session_cmp m key.session ≡ Some os) where
     pub unheard-object : value_at object_cmp os key.object ≡ None → IsUnheard (content m) key
-    unheard-object h part = at-found (ordered-store s o m p) key f part None h
+    unheard-object h part = at-found (ordered-store s o m p) key f _ None h
 
     pub told-object : {x : Object n} → value_at object_cmp os key.object ≡ Some x
         → IsTold (content m) key x
     told-object {x} h =
-        let q = ordered-store s o m p in
-        let solid = solid-store s o m p in
-        let a = symbols-held q key f h in
-        let b = symbols_named solid key.session f key.object h in
-        record {
-          heard = object_stands solid key.session f key.object h;
-          info = at-info q key f h ∙ info-cell key x.info;
-          each = λ id. at-symbol q key f h id (value_at symbol_id_cmp x.symbols id) refl ∙
-              symbol-cell key id (value_at symbol_id_cmp x.symbols id);
-          count = omega (arith, a, b);
-          object = each-value_at object_cmp IsObject os key.object x
-              (each-value_at session_cmp (IsSession o) m key.session os p.each f).each h;
-        }
+        let q = ordered-store s o m p in let solid = solid-store s o m p in record { heard = object_stands solid key.session f key.object h; info = at-info q key f h ∙ info-cell key x.info; each = λ id. at-symbol q key f h id (value_at symbol_id_cmp x.symbols id) refl ∙ symbol-cell key id (value_at symbol_id_cmp x.symbols id); count = omega (arith, symbols-held q key f h, symbols_named solid key.session f key.object h); object = each-value_at object_cmp IsObject os key.object x (each-value_at session_cmp (IsSession o) m key.session os p.each f).each h }
 
     -- what a look-up finds
     pub found-object : (r : Option (Bor (Object n))) → option_copied r ≡ value_at object_cmp os

@@ -1,10 +1,11 @@
 -- The gaps that a walk gives are the runs of what is wanted (specs/GapsLeft).
+use Rattle.flute_store.proofs.Maps.{Entry}
 use Rattle.std.proofs.Common.{rules}
 use Rattle.std.proofs.Common.{◌≡◌, ◌≢◌, ℕ, zero, suc, ◌+◌, ◌-◌, ◌<◌, ◌≤◌, false, ◌&&◌, List}
 use Rattle.std.proofs.Common.{[], ◌∷◌, ◌++◌, map, Option, Some, None, refl, sym, ap, ◌∙◌, subst}
 use Rattle.std.proofs.Common.{inl, inr, ◌⊎◌, arith, append_assoc}
 use Rattle.flute_store.proofs.Lookups.{Above, sbn-less, above-before, above-later}
-use Rattle.flute_store.proofs.Lookups.{above-block, blocks_from-end, Entry, Elsewhere, value-before}
+use Rattle.flute_store.proofs.Lookups.{above-block, blocks_from-end, Elsewhere, value-before}
 use Rattle.flute_store.proofs.Lookups.{value-here, wanted-missing, elsewhere-above, elsewhere-here}
 use Rattle.std.proofs.Math.Nat.{zero-add, add-zero, suc-add}
 use Rattle.std.{proofs.lemmas.List.FromFn.{map-range_with_len_more}, specs.Prelude.{nat_lt}}
@@ -46,10 +47,7 @@ run-more : (n i : ℕ) (r : Reason) (run : Option Gap) (ws : List (SymbolId × R
 run-more n i r None ws e h =
     let k : i + 1 - i ≡ 1 = omega arith in rw k
 run-more n i r (Some g) ws e h =
-    let k : i + 1 - g.first ≡ g.last + 1 - g.first + 1 = omega arith in
-    let n = g.last + 1 - g.first in
-    rw (k, map-range_with_len_more (entry g.sbn g.reason) g.first n i (omega arith), append_assoc)
-    (λ x. pending (Some g) ++ (entry (e.0 x) (same_run g r h x) i ∷ ws))
+    let k : i + 1 - g.first ≡ g.last + 1 - g.first + 1 = omega arith in rw (k, map-range_with_len_more (entry g.sbn g.reason) g.first (g.last + 1 - g.first) i (omega arith), append_assoc) (λ x. pending (Some g) ++ (entry (e.0 x) (same_run g r h x) i ∷ ws))
 
 pub run-ends : (n i : ℕ) (r : Reason) (run : Option Gap) → EndsBefore n i run → ended_run run
     (Wanted r) ≡ None → r ≢ Missing → EndsBefore n (i + 1) (Some (run_with n i r run))
@@ -82,7 +80,7 @@ module _ (w : Walk) (r : Reason) (p : IsWalk w) (h : 0 < w.esi) (d : r ≢ Missi
   at_end : w.esi ≡ w.size → Elsewhere (here w) r (left w)
   unfolding left
   at_end e = rw (symbols-end w e) (elsewhere-above _ _ _ r _
-      (above-later _ _ (blocks-later w p (omega (arith, e)))))
+      (above-later _ _ (blocks-later w p (omega (arith)))))
 
   at_fitting : AtHere w None → Elsewhere (here w) r (left (after_take w))
   unfolding left
@@ -92,7 +90,7 @@ module _ (w : Walk) (r : Reason) (p : IsWalk w) (h : 0 < w.esi) (d : r ≢ Missi
   unfolding left
   at_not_held t =
       let l = inside-less w p t.0 in
-      rw (symbols-first w l) (elsewhere-here w.partition w.held (here w) r (others_left w) (λ e. d (sym (same_Some Missing r (sym (ap (want_cell w.partition (here w)) (value-before w.held (here w) (first-above (here w) w.held p.ordered t.1))) ∙ e)))) (others-above w p l))
+      rw (symbols-first w l) (elsewhere-here w.partition _ (here w) r (others_left w) (λ e. d (sym (same_Some Missing r (sym (ap (want_cell _ (here w)) (value-before w.held _ (first-above (here w) _ p.ordered t.1))) ∙ e)))) (others-above w p l))
 
   pub stop-elsewhere : (l : Upcoming) → upcoming_of w ≡ l → EndsRun r l
       → Elsewhere (here w) r (left w)
@@ -102,16 +100,14 @@ module _ (w : Walk) (r : Reason) (p : IsWalk w) (h : 0 < w.esi) (d : r ≢ Missi
   stop-elsewhere Fitting e s =
       let t = told w _ e in
       rw (taken-left w.run w None p t) (at_fitting t)
-  stop-elsewhere (Wanted q) e s = rw (taken-left w.run w (Some q) p (told w (Wanted q) e)) (λ f g. s g)
+  stop-elsewhere (Wanted q) e s = rw (taken-left w.run w _ p (told w (Wanted q) e)) (λ f g. s g)
   stop-elsewhere NotHeld e s = at_not_held (told w _ e)
 
 -- a wanted symbol is put to the run
 pub step-want : (w : Walk) (r : Reason) → IsWalk w → AtHere w (Some r)
     → ended_run w.run (Wanted r) ≡ None → Keeps w (after_want r w)
 step-want w r p t h =
-    let run = Some (run_with w.sbn w.esi r w.run) in
-    taken-keeps _ w _ p t (run-ends _ _ r _ p.running h (here-known w r p t))
-    (run-more _ _ r _ _ p.running h ∙ ap (λ ws. pending w.run ++ ws) (sym (taken-left run w _ p t)))
+    taken-keeps _ w _ p t (run-ends _ _ r _ p.running h (here-known w r p t)) (run-more _ _ r _ _ p.running h ∙ ap (λ ws. pending w.run ++ ws) (sym (taken-left (Some (run_with w.sbn _ r w.run)) w _ p t)))
 
 -- the run that ends is given
 ends-upcoming : (g : Gap) (l : Upcoming) → ended_run (Some g) l ≡ Some g → EndsRun g.reason l
@@ -140,13 +136,12 @@ gap-run w g p e h =
         running = tt;
       };
       first = ap (λ o. runs (pending o ++ left w)) e ∙ runs-first _ _ _ _ _ (omega arith)
-          (subst (λ x. Elsewhere x g.reason (left w)) f x) ∙
-          (λ i. record g { last = k i } ∷ runs (left w));
+          (rw (← f) x) ∙ (λ i. record g { last = k i } ∷ runs (left w));
       held_is = refl;
       begun_is = refl;
       partition_is = refl;
       passes = record {
-        begun = rw (← p.in_block (let n = p.within in omega (arith, n, z)), ← q.0);
+        begun = rw (← p.in_block (omega (arith, p.within)), ← q.0);
         behind = rw q.0 (subst (λ i. IsBehind w.sbn i w.held) j (p.behind z));
       };
     }
@@ -217,13 +212,11 @@ missing-elsewhere : (w : Walk) → IsWalk w → 0 < w.size → ((until_of w ≡ 
     (left (after_missing w))
 unfolding left
 missing-elsewhere w p l (inl e) =
-    let q = symbol_id _ _ in
-    let a = above-later q _ (blocks-later w p l) in
-    rw (symbols-end (after_missing w) e) (elsewhere-above _ _ q _ _ a)
+    let q = symbol_id _ _ in rw (symbols-end (after_missing w) e) (elsewhere-above _ _ q _ _ (above-later q _ (blocks-later w p l)))
 missing-elsewhere w p l (inr n) =
     let q = symbol_id _ _ in
     let e = n.1 in
-    rw (symbols-first (after_missing w) n.0) (elsewhere-here w.partition w.held q Missing (others_left (after_missing w)) (λ z. known-not_missing w.partition q e.1 (first-known w.held e n.2 n.3 p.known) (sym (ap (want_cell w.partition q) (ap (λ (x : List Entry). value_at symbol_id_cmp x q) n.3 ∙ value-here e n.2 q n.4)) ∙ z)) (above-block w.sbn (until_of w) w.size (blocks_from w.partition w.begun) (blocks-later w p l)))
+    rw (symbols-first (after_missing w) n.0) (elsewhere-here w.partition _ q Missing (others_left (after_missing w)) (λ z. known-not_missing w.partition q e.1 (first-known w.held e n.2 n.3 p.known) (sym (ap (want_cell _ q) (ap (λ (x : List Entry). value_at symbol_id_cmp x q) n.3 ∙ value-here e _ q n.4)) ∙ z)) (above-block _ (until_of w) w.size _ (blocks-later w p l)))
 
 missing-left : (w : Walk) → Until w.sbn w.esi w.size (until_of w) w.held
     → left w ≡ map (λ i. (symbol_id w.sbn i, Missing)) (range_with_len w.esi (until_of w - w.esi))
@@ -232,9 +225,8 @@ unfolding left
 missing-left w u =
     let rest = blocks_from w.partition w.begun in
     ap (λ xs. wanted w.partition w.held (xs ++ rest))
-    (block-split w.sbn w.esi (until_of w) w.size (omega arith) u.within) ∙ ap (wanted _ _)
-    (append_assoc (block_from w.sbn w.esi (until_of w)) (block_from w.sbn (until_of w) w.size) rest)
-    ∙ wanted-missing _ _ _ _ _ (block_from _ _ _ ++ rest)
+    (block-split w.sbn w.esi _ w.size (omega arith) u.within) ∙ ap (wanted _ _)
+    (append_assoc _ (block_from w.sbn _ w.size) rest) ∙ wanted-missing _ _ _ _ _ _
     (λ i h. value-before w.held (symbol_id _ i) (u.before i (omega (arith, h))))
 
 abbrev missing_gap_of : Walk → Gap

@@ -1,4 +1,5 @@
 -- How many symbols are wanted for each reason (specs/Status).
+use Rattle.flute_store.proofs.Maps.{Entry}
 use Rattle.std.proofs.Common.{rules}
 use Rattle.std.proofs.Common.{◌≡◌, ℕ, zero, suc, ◌+◌, ◌-◌, ◌<◌, ◌≤◌, ◌^◌, Bool, true, false, List}
 use Rattle.std.proofs.Common.{[], ◌∷◌, ◌++◌, length, map, Some, refl, sym, ap, ◌∙◌, subst, arith}
@@ -9,7 +10,7 @@ use Rattle.flute_store.{specs.declared.status.Wanted.{Wanted}, proofs.Runs.{runs
 use Rattle.flute_store.proofs.WholeObjects.{gapless-whole}
 use Rattle.flute_store.proofs.ToldObjects.{ToldGaps, wants-told, told-information}
 use Rattle.flute_store.proofs.Common
-use Common.{◌==◌, flat_map, range_with_len, cases_Bool, eqb-true, false≢true, Cell, Information}
+use Common.{◌==◌, flat_map, range_with_len, cases_Bool, eqb-true, false≢true, Information}
 use Common.{both, fact_at, info_address, Info, symbol_id, ids, Key, SymbolId, Fact, Reason, Missing}
 use Common.{Conflicting, Misfit, Gap, Object, Whole, wants, runs, listed, same_reason, AreRuns}
 use Common.{wanted, how_many, IsCount, Adds, IsPartial, status_of, TellsStatus}
@@ -96,13 +97,13 @@ unfolding how_many
 counts-all = omega arith
 
 -- no more symbols are wanted than there are
-length-wanted : (info : Information) (held : List (SymbolId × Cell (List ℕ))) (xs : List SymbolId)
+length-wanted : (info : Information) (held : List Entry) (xs : List SymbolId)
     → length (wanted info held xs) ≤ length xs
 unfolding wanted
 length-wanted info held [] = omega arith
 length-wanted info held (x ∷ xs) = grind (arith, length-wanted info held xs)
 
-pub few-wanted : (info : Information) (held : List (SymbolId × Cell (List ℕ))) (gs : List Gap)
+pub few-wanted : (info : Information) (held : List Entry) (gs : List Gap)
     → gs ≡ runs (wanted info held (ids info)) → length (ids info) ≤ 2 ^ 32
     → length (flat_map listed gs) ≤ 2 ^ 32
 few-wanted info held gs e l =
@@ -120,7 +121,7 @@ module _ (F : List Fact) (key : Key) (info : Information) (count : Wanted)
   unfolding runs
   is-whole a b d =
       let s = total in
-      gapless-whole F _ _ i (ap runs (nil_from_length (wants F _ _) (omega (arith, s, a, b, d))))
+      gapless-whole F _ _ i (ap runs (nil_from_length (wants F _ _) (omega (arith, a, b))))
 
   is-partial : (count.missing ≡ 0 → count.conflicting ≡ 0 → count.misfit ≡ 0 → ⊥)
       → IsPartial F key count.missing count.conflicting count.misfit
@@ -129,7 +130,7 @@ module _ (F : List Fact) (key : Key) (info : Information) (count : Wanted)
     information = i;
     some = λ w. let s = total in
         let l = ap (λ (x : List Want). length x) w in
-        z (omega (arith, s, l)) (omega (arith, s, l)) (omega (arith, s, l));
+        z (omega (arith, s)) (omega (arith, s, l)) (omega (arith, l));
     missing_are = c.missing;
     conflicting_are = c.conflicting;
     misfit_are = c.misfit;
@@ -139,21 +140,18 @@ module _ (F : List Fact) (key : Key) (info : Information) (count : Wanted)
   tells-status n l = elim (cases_Bool _) [
     | inl t ↦
         let p = both (count.missing == 0) ((count.conflicting == 0) && (count.misfit == 0)) t in
-        let q = both (count.conflicting == 0) (count.misfit == 0) p.1 in
+        let q = both _ (count.misfit == 0) p.1 in
         rw t (info, is-whole (eqb-true _ 0 p.0) (eqb-true _ 0 q.0) (eqb-true _ 0 q.1), l)
     | inr t ↦ rw t (is-partial (λ a b d. false≢true (sym t ∙ rw (a, b, d))))
   ]
 
 -- the wanted symbols of all gaps were counted
 pub store-status : {n : ℕ} {F : List Fact} {key : Key} {x : Object n} {info : Information}
-    {held : List (SymbolId × Cell (List ℕ))} {gs : List Gap} → ToldGaps F key x info held gs
+    {held : List Entry} {gs : List Gap} → ToldGaps F key x info held gs
     → (count : Wanted) → IsCount count (flat_map listed gs) → (length : ℕ)
     → length ≡ info.transfer_length → TellsStatus F key (status_of count length)
 store-status {n} {F} {key} {x} {info} {held} {gs} t count c =
-    let told = wants-told F _ x _ t.told in
-    let all = ap (flat_map _) t.gaps_are ∙ runs-listed _ ∙ ap
-    (λ s. wanted info s (ids info)) t.held_is ∙ sym told in tells-status F _ _ _
-    (told-information F _ x _ t.told t.info_is) (subst (IsCount count) all c)
+    let all = ap (flat_map _) t.gaps_are ∙ runs-listed _ ∙ ap (λ s. wanted info s (ids info)) t.held_is ∙ sym (wants-told F _ x _ t.told) in tells-status F _ _ _ (told-information F _ x _ t.told t.info_is) (subst (IsCount count) all c)
 
 -- ---- gap after gap
 

@@ -1,4 +1,5 @@
 -- Store::objects: the keys of a store rise, and are those of the objects it holds.
+use Rattle.flute_store.proofs.Maps.{Objects, Sessions}
 use Rattle.std.proofs.Common.{rules}
 use Rattle.std.proofs.Common.{◌≡◌, ℕ, List, [], ◌∷◌, ◌++◌, Some, refl, sym, ap, ◌∙◌}
 use Rattle.std.proofs.Common.{subst, inl, inr, ◌↔◌, arith}
@@ -31,7 +32,7 @@ rise-append : (xs ys : List Key) → IsStrictlySortedBy key_cmp xs → IsStrictl
 unfolding IsStrictlySortedBy
 rise-append [] ys p q b = q
 rise-append (x ∷ xs) ys p q b =
-    (each-append (λ y. key_cmp x y ≡ Less) xs ys p.0 b.0, rise-append xs ys p.1 q b.1)
+    (each-append (λ y. key_cmp x y ≡ Less) xs ys p.0 b.0, rise-append xs _ p.1 q b.1)
 
 pub one_is : {X : Type 0} (y x : X) → Contains (y ∷ []) x → y ≡ x
 one_is = search rules
@@ -51,7 +52,7 @@ module _ {X : Type 0} where
   keys-are : (m : List (Session × List (ObjectName × X)))
       → keys_of (keyed_objects (λ os. os) m) ≡ store_keys m
   keys-are [] = refl
-  keys-are (e ∷ m) = map-append (λ (x : Key × X). x.0) (keyed _ _) (keyed_objects (λ os. os) m)
+  keys-are (e ∷ m) = map-append (λ (x : Key × X). x.0) (keyed _ _) _
       ∙ (λ i. session-keys-are e.0 e.1 i ++ keys-are m i)
 
   object_before : (s : Session) (o : ObjectName) (es : List (ObjectName × X)) → AllByRecursion
@@ -94,7 +95,7 @@ module _ {X : Type 0} where
         e.1,
         subst
             (λ (z : Key). value_at object_cmp (e ∷ es) z.object ≡ Some e.1) q
-            (first_value object_total object_tells e es),
+            (first_value object_total object_tells e _),
       ),
     )
     | inr h ↦ let r = in_session s es k (sorted_tail _ _ _ p) h in
@@ -105,28 +106,26 @@ module _ {X : Type 0} where
       → value_at object_cmp es o ≡ Some v → Contains (session_keys s es) (key_in s o)
   session_has s [] o v f = absurd (none-some v f)
   session_has s (e ∷ es) o v f = elim (cases_Bool (is_eq _)) [
-    | inl t ↦ let same = object_place o _ ((Equal-is (object_cmp o e.0)).0 t) in rw same
-        (first_is _ _)
+    | inl t ↦ rw (object_place o _ ((Equal-is (object_cmp o e.0)).0 t)) (first_is _ _)
     | inr t ↦ Contains-append_right (key_in s e.0 ∷ []) _ _ (session_has s es o v (rw t at f))
   ]
 
 module _ {n : ℕ} where
   -- the keys of a store rise
-  sessions_rise : (m : List (Session × List (ObjectName × Object n))) → IsOrdered session_cmp m
+  sessions_rise : (m : Sessions n) → IsOrdered session_cmp m
       → EachValue OrderedSession m → IsStrictlySortedBy key_cmp (store_keys m)
   unfolding IsStrictlySortedBy
   sessions_rise [] p q = tt
   sessions_rise (e ∷ m) p q = rise-append (session_keys _ _) (store_keys m)
       (session_rises _ _ q.0.ordered) (sessions_rise m p.1 q.1) (all_before _ _ m p.0)
 
-  pub keys_rise : (m : List (Session × List (ObjectName × Object n))) → OrderedStore m
+  pub keys_rise : (m : Sessions n) → OrderedStore m
       → IsStrictlySortedBy key_cmp (keys_of (keyed_objects (λ os. os) m))
   keys_rise m p = rw (keys-are m) (sessions_rise m p.ordered p.each)
 
-  in_store : (m : List (Session × List (ObjectName × Object n))) (k : Key) → IsOrdered session_cmp m
-      → EachValue OrderedSession m → Contains (store_keys m) k
-      → (os : List (ObjectName × Object n)) × (x : Object n)
-      × (value_at session_cmp m k.session ≡ Some os) × (value_at object_cmp os k.object ≡ Some x)
+  in_store : (m : Sessions n) (k : Key) → IsOrdered session_cmp m → EachValue OrderedSession m →
+      Contains (store_keys m) k → (os : Objects n) × (x : Object n) ×
+      (value_at session_cmp m k.session ≡ Some os) × (value_at object_cmp os k.object ≡ Some x)
   in_store [] k p q c = absurd (none_in k c)
   in_store (e ∷ m) k p q c = elim (Contains-append_cases _ _ k c) [
     | inl h ↦ let r = in_session _ _ k q.0.ordered h in (
@@ -141,23 +140,19 @@ module _ {n : ℕ} where
         (r.0, r.1, later_value session_total session_tells e m _ _ p r.2, r.3)
   ]
 
-  store_has : (m : List (Session × List (ObjectName × Object n))) (s : Session) (o : ObjectName)
-      (os : List (ObjectName × Object n)) (x : Object n) → value_at session_cmp m s ≡ Some os →
+  store_has : (m : Sessions n) (s : Session) (o : ObjectName)
+      (os : Objects n) (x : Object n) → value_at session_cmp m s ≡ Some os →
       value_at object_cmp os o ≡ Some x → Contains (store_keys m) (key_in s o)
   store_has [] s o os x f h = absurd (none-some _ f)
   store_has (e ∷ m) s o os x f h = elim (cases_Bool _) [
     | inl t ↦
-        let same = session_place s e.0 ((Equal-is (session_cmp s e.0)).0 t) in
-        let there = same_Some e.1 os (rw t at f) in
-        Contains-append_left (session_keys e.0 e.1) (store_keys m) (key_in s o)
-        (rw (there, ← same) (session_has s os o x h))
-    | inr t ↦ Contains-append_right (session_keys e.0 e.1) _ _ (store_has m s o _ x (rw t at f) h)
+        let same = session_place s e.0 ((Equal-is (session_cmp s e.0)).0 t) in Contains-append_left (session_keys _ e.1) (store_keys m) _ (rw (same_Some _ os (rw t at f), ← same) (session_has s os o x h))
+    | inr t ↦ Contains-append_right (session_keys _ e.1) _ _ (store_has m s o _ x (rw t at f) h)
   ]
 
   -- they are those of the objects of which something is held
-  pub keys_held : (s o : ℕ) (m : List (Session × List (ObjectName × Object n))) → IsStore s o m
-      → (key : Key) → Contains (keys_of (keyed_objects (λ os. os) m)) key
-      ↔ HoldsObject (content m) key
+  pub keys_held : (s o : ℕ) (m : Sessions n) → IsStore s o m → (key : Key) → Contains
+      (keys_of (keyed_objects (λ os. os) m)) key ↔ HoldsObject (content m) key
   keys_held s o m p key =
       let ordered = ordered-store s o m p in
       rw (keys-are m) (

@@ -1,4 +1,5 @@
 mod Common
+mod Maps
 mod FactEntries
 mod StoreJoin
 mod OnePair

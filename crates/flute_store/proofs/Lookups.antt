@@ -1,4 +1,5 @@
 -- The symbols of a partition are in rising order, and what is wanted of them (specs/Objects).
+use Rattle.flute_store.proofs.Maps.{Entry}
 use Rattle.std.proofs.Common.{rules}
 use Rattle.std.proofs.Common.{◌≡◌, ℕ, zero, suc, ◌+◌, ◌-◌, ◌<◌, get_or, List, [], ◌∷◌, ◌++◌, length}
 use Rattle.std.proofs.Common.{map, drop, refl, arith, Option, Some, None, sym, subst}
@@ -7,7 +8,7 @@ use Rattle.flute_store.proofs.Common
 use Common.{flat_map, range_with_len, enumerate_from, AllByRecursion, Less, nat_tests, Information}
 use Common.{sizes, symbol_id_cmp, symbol_id, block_ids, ids, symbol_id_total, SymbolId, block_from}
 use Common.{blocks_from, option_map, cons_option, keys_of}
-use Common.{value_at, Cell, Reason, Missing, want_cell, with_reason, wanted}
+use Common.{value_at, Reason, Missing, want_cell, with_reason, wanted}
 
 -- each of the symbols is after p
 abbrev pub Above : SymbolId → List SymbolId → Type 0
@@ -62,7 +63,7 @@ block_from-end = search rules
 
 pub above-block : (n a s : ℕ) (xs : List SymbolId) → Later n xs
     → Above (symbol_id n a) (block_from n (a + 1) s ++ xs)
-above-block n a s xs l = above-range n a (a + 1) (s - (a + 1)) xs (omega arith) (above-later _ _ l)
+above-block n a s xs l = above-range n a (a + 1) (s - (a + 1)) _ (omega arith) (above-later _ _ l)
 
 -- the blocks from one on are that one and those after it
 pub blocks_from-next : (info : Information) (n : ℕ) → n < length (sizes info)
@@ -79,9 +80,6 @@ unfolding blocks_from ids
 blocks_from-all info = refl
 
 -- ---- what is wanted, symbol by symbol
-
-abbrev pub Entry : Type 0
-Entry = SymbolId × Cell (List ℕ)
 
 pub value-past : (e : Entry) (es : List Entry) (q : SymbolId) → symbol_id_cmp e.0 q ≡ Less
     → value_at symbol_id_cmp (e ∷ es) q ≡ value_at symbol_id_cmp es q
@@ -110,7 +108,7 @@ pub wanted-here : (info : Information) (e : Entry) (es : List Entry) (q : Symbol
     (option_map (with_reason q) (want_cell info q (Some e.1))) (wanted info es xs)
 unfolding wanted
 wanted-here info e es q xs h a =
-    rw (value-here e _ q h, wanted-past info e es xs (subst (λ z. Above z xs) (sym h) a))
+    rw (value-here e _ q h, wanted-past info e es _ (subst (λ z. Above z xs) (sym h) a))
 
 -- symbols of which nothing is held are missing
 pub wanted-missing : (info : Information) (held : List Entry) (n a k : ℕ) (xs : List SymbolId)
@@ -140,7 +138,7 @@ pub elsewhere-above : (info : Information) (held : List Entry) (p : SymbolId) (r
 unfolding wanted
 elsewhere-above info held p r [] a = tt
 elsewhere-above info held p r (x ∷ xs) a = elsewhere-cons p x r (want_cell _ x _)
-    (wanted info held xs) (λ e f. not_itself p x a.0 e) (elsewhere-above info held p r xs a.1)
+    (wanted _ held xs) (λ e f. not_itself p x a.0 e) (elsewhere-above info _ p r xs a.1)
 
 pub elsewhere-here : (info : Information) (held : List Entry) (p : SymbolId) (r : Reason)
     (xs : List SymbolId) → (want_cell info p (value_at symbol_id_cmp held p) ≡ Some r → ⊥)

@@ -1,4 +1,5 @@
 -- If a join may ask for memory, the other store has a fact at a new address (specs/Memory).
+use Rattle.flute_store.proofs.Maps.{Objects, Sessions}
 use Rattle.flute_store.proofs.Exceeding.{SolidSession, SolidStore, SolidObject, ordered_store}
 use Rattle.flute_store.proofs.Exceeding.{symbol_stands, object_stands, first_object, info_stands}
 use Rattle.std.proofs.Common.{◌≡◌, ◌≢◌, ℕ, List, Option, Some, None, refl, sym, ap, ◌∙◌, inl, inr}
@@ -21,9 +22,9 @@ from_address F G a h e =
 has_value : {T : Type 0} (c : Cell T) → IsSome (one_value c) → IsKnown c
 has_value = grind arith
 
-module _ {n : ℕ} {m w : List (Session × List (ObjectName × Object n))} (p : SolidStore m)
+module _ {n : ℕ} {m w : Sessions n} (p : SolidStore m)
     (q : SolidStore w) where
-  module _ (s : Session) {os ws : List (ObjectName × Object n)}
+  module _ (s : Session) {os ws : Objects n}
       (f : value_at session_cmp m s ≡ Some os) (g : value_at session_cmp w s ≡ Some ws) where
     module _ (o : ObjectName) {x y : Object n} (h : value_at object_cmp os o ≡ Some x)
         (k : value_at object_cmp ws o ≡ Some y) where
@@ -40,14 +41,7 @@ module _ {n : ℕ} {m w : List (Session × List (ObjectName × Object n))} (p : 
           d → (found : Option (Cell (List ℕ))) → value_at symbol_id_cmp x.symbols id ≡ found →
           ForSome found (λ c. CellNeedsMemory c d) → HasNew (content m) (content w)
       new_symbol id d b found a needs =
-          let key = key_in s o in
-          let known =
-          each-value_at object_cmp SolidObject ws o y
-          (each-value_at session_cmp SolidSession w s ws q.each g).each k in
-          from_address _ _ (symbol_address _ _)
-          (symbol_stands q s g o k _ b
-          (each-value_at symbol_id_cmp IsKnown y.symbols id d known.each b))
-          (at-symbol (ordered_store p) _ f h _ _ a ∙ nothing _ needs)
+          let known = each-value_at object_cmp SolidObject ws o y (each-value_at session_cmp SolidSession w s ws q.each g).each k in from_address _ _ (symbol_address _ _) (symbol_stands q s g o k _ b (each-value_at symbol_id_cmp IsKnown y.symbols id d known.each b)) (at-symbol (ordered_store p) _ f h _ _ a ∙ nothing _ needs)
         where
           nothing : (found : Option (Cell (List ℕ))) → ForSome found (λ c. CellNeedsMemory c d)
               → option_map_or (λ c. fact_at (symbol_cell_facts (key_in s o) id c)
@@ -71,10 +65,9 @@ module _ {n : ℕ} {m w : List (Session × List (ObjectName × Object n))} (p : 
         (at-found (ordered_store p) _ f _ _ h)
     new_object o k (Some x) h needs = new_in_object o h k (needs x refl)
 
-  new_session : (s : Session) {ws : List (ObjectName × Object n)} → value_at session_cmp w s ≡ Some
-      ws → (found : Option (List (ObjectName × Object n))) → value_at session_cmp m s ≡ found →
-      ForSome found (λ os. MapNeedsMemory object_cmp ObjectNeedsMemory os ws) → HasNew (content m)
-      (content w)
+  new_session : (s : Session) {ws : Objects n} → value_at session_cmp w s ≡ Some ws →
+      (found : Option (Objects n)) → value_at session_cmp m s ≡ found → ForSome found
+      (λ os. MapNeedsMemory object_cmp ObjectNeedsMemory os ws) → HasNew (content m) (content w)
   new_session s {ws} g None f needs =
       let stands = first_object q s g ws refl
       (each-value_at session_cmp SolidSession w s ws q.each g).some in

@@ -34,10 +34,9 @@ fits-length info id n k v l g h =
     let at_k = (places-inverse info id k).1 (slice_get-get_or _ k _ l ∙ ap Some g) in
     let count = ids_counted _ v in
     let told = sym (ap (λ p. fits_at info p n) at_k) ∙ h in
-    elim (or_cases (n == info.symbol_length)
-    ((k + 1 == symbol_count info) && (n == last_length info)) told) [
+    elim (or_cases _ ((k + 1 == symbol_count info) && (n == last_length info)) told) [
       | inl p ↦ inl (eqb-true n _ p)
-      | inr p ↦ let q = both (k + 1 == symbol_count info) (n == last_length info) p in inr
+      | inr p ↦ let q = both _ (n == last_length info) p in inr
           (eqb-true _ _ q.0 ∙ sym count, eqb-true n _ q.1)
     ]
 
@@ -49,9 +48,8 @@ each-symbol : (F : List Fact) (key : Key) (info : Information) → IsValid info 
 unfolding symbol_bytes
 each-symbol F key info v w k id l g =
     let held = w.each id (k, l, g) in
-    let e : length (value_bytes (fact_at F (symbol_address key id))) ≡ length held.bytes =
-    ap (λ o. length (value_bytes o)) held.value in
-    elim (fits-length info id (length held.bytes) k v l g held.fitting) [
+    let e = ap (λ o. length (value_bytes o)) held.value in
+    elim (fits-length info _ (length held.bytes) k v l g held.fitting) [
       | inl p ↦ inl (e ∙ p)
       | inr p ↦ inr (p.0, e ∙ p.1)
     ]
@@ -59,8 +57,7 @@ each-symbol F key info v w k id l g =
 -- the last symbol is no longer than the others
 last-short : (info : Information) → 0 < info.symbol_length → last_length info ≤ info.symbol_length
 last-short info h =
-    let b = div_ceil_times info.transfer_length _ h in
-    shorter _ _ _ b.0
+    shorter _ _ _ (div_ceil_times info.transfer_length _ h).0
   where
     shorter : (l t e : ℕ) → l ≤ t * e → l - (t - 1) * e ≤ e
     shorter l zero e h = omega (arith, h)
@@ -71,7 +68,7 @@ enough : (info : Information) (f : SymbolId → List ℕ) (xs : List SymbolId) �
     info.symbol_length (last_length info) xs → info.transfer_length ≤ length (flat_map f xs)
 enough info f [] c p l h = absurd (omega (arith, p))
 enough info f (x ∷ xs) c p l h =
-    let t : length xs ≡ symbol_count info - 1 = omega (arith, c) in
+    let t : length xs ≡ symbol_count info - 1 = omega (arith) in
     omega (arith, rw t at (length-each f info.symbol_length (last_length info) x xs l h))
 
 pub object-length : (F : List Fact) (key : Key) (info : Information) → IsValid info
@@ -79,8 +76,8 @@ pub object-length : (F : List Fact) (key : Key) (info : Information) → IsValid
 unfolding object symbol_bytes
 object-length F key info v w = length-take-le _ _ (elim (eq-zero-or-pos info.transfer_length) [
   | inl z ↦ omega (arith, z)
-  | inr l ↦ let count = ids_counted info v in
+  | inr l ↦ let count = ids_counted _ v in
       let pos = div_ceil-pos info.transfer_length info.symbol_length l in
-      enough info (symbol_bytes F key) (ids info) count (omega (arith, count, pos))
-      (last-short info (v.parts l).symbol) (each-symbol F key info v w)
+      enough info (symbol_bytes F key) _ count (omega (arith, pos))
+      (last-short info (v.parts l).symbol) (each-symbol F _ info v w)
 ])

@@ -62,7 +62,7 @@ module _ {K X : Type 0} {cmp : K → K → Ordering} {join : X → X → X} (all
 
   pair-ordered : (es : List (K × X)) (k : K) (w : X) → IsOrdered cmp es
       → IsOrdered cmp (with_pair es k w)
-  pair-ordered es k w s = ordered-map_join all.keys.order join es ((k, w) ∷ []) s
+  pair-ordered es k w s = ordered-map_join all.keys.order join _ ((k, w) ∷ []) s
       (ordered_one all.keys.order all.keys.same all.laws (k, w))
 
   pair-some : (es : List (K × X)) (k : K) (w : X) → with_pair es k w ≢ []
@@ -81,12 +81,12 @@ module _ {K X : Type 0} {cmp : K → K → Ordering} {join : X → X → X} (all
     held-sound {v} f p =
         let is = single_held all.keys.order all.laws _ k v w m.ordered f in
         let same_length : length (with_pair es k w) ≡ length es = ap length is ∙ length-set_value
-        (is_at _) es (join v w) in record {
-          ordered = pair-ordered es k w m.ordered;
-          within = (let l = m.within in omega (arith, l, same_length));
+        _ es (join v w) in record {
+          ordered = pair-ordered _ k w m.ordered;
+          within = (omega (arith, m.within));
           some = pair-some es k w;
           each = subst (EachValue P) (sym is)
-              (each-set_value cmp P (is_at (cmp k)) es (join v w) m.each p);
+              (each-set_value cmp P (is_at (cmp k)) _ (join v w) m.each p);
         }
 
     -- at a new key with room it is sound
@@ -96,9 +96,9 @@ module _ {K X : Type 0} {cmp : K → K → Ordering} {join : X → X → X} (all
         let longer = pair-longer _ k w limit f in
         record {
           ordered = pair-ordered _ k w m.ordered;
-          within = omega (arith, longer, room);
+          within = omega (arith, room);
           some = pair-some _ k w;
-          each = rw (single_new all.keys.order all.laws es k w f) (each-insert_entry cmp P es k w m.each p);
+          each = rw (single_new all.keys.order all.laws es k w f) (each-insert_entry cmp P _ k w m.each p);
         }
 
     -- so it is if there is room, where a join keeps what holds of each value
@@ -112,7 +112,7 @@ module _ {K X : Type 0} {cmp : K → K → Ordering} {join : X → X → X} (all
   module _ (es : List (K × X)) (k : K) (w : X) where
     joined_there : (found : Option X) → IsOrdered cmp es → value_at cmp es k ≡ found
         → value_at cmp (with_pair es k w) k ≡ join_values join found (Some w)
-    joined_there found s f = value_at-map_join all.keys.order join es ((k, w) ∷ []) k s
+    joined_there found s f = value_at-map_join all.keys.order join _ ((k, w) ∷ []) k s
         (ordered_one all.keys.order all.keys.same all.laws (k, w)) ∙ rw
         (f, tied_itself all.keys.order k)
 
@@ -127,8 +127,7 @@ module _ {K X : Type 0} {cmp : K → K → Ordering} {join : X → X → X} (all
 
     pub full-beyond : (limit : ℕ) → value_at cmp es k ≡ None → length es ≡ limit
         → limit < length (with_pair es k w)
-    full-beyond limit f full =
-        let longer = pair-longer _ k w limit f in omega (arith, longer, full)
+    full-beyond limit f full = omega (arith, pair-longer _ k w limit f)
 
 -- ---- cells
 pub update-some : (o : Option (SymbolId × SymbolUpdate)) → o ≢ None → update_symbols o ≢ []

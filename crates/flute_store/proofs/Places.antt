@@ -1,4 +1,5 @@
 -- The place of a walk after a turn, whatever is held after the next symbol (specs/PartitionScan).
+use Rattle.flute_store.proofs.Maps.{Held}
 use Rattle.std.proofs.Common.{rules}
 use Common.{Ordering, Less, Equal, Greater, match_ordering, sizes}
 use Common.{symbol_id_cmp, symbol_id_place, symbol_id, fits, SymbolId, Reason, Missing, Gap}
@@ -14,7 +15,7 @@ use Rattle.flute_store.proofs.{GapSteps.{run-ends}, Turns.{no-run}}
 use Rattle.flute_store.proofs.Common
 
 abbrev Next : Type 0
-Next = Option (SymbolId × Option ℕ)
+Next = Option Held
 
 -- ---- what comes next, from its parts
 
@@ -47,7 +48,7 @@ IsAfter here (Some next) = symbol_id_cmp next.0 here ≡ Greater
 abbrev TellsAt : PartitionScan → Next → Upcoming → Type 0
 TellsAt w next End = (w.esi ≡ w.size) × (w.begun ≡ length (sizes w.partition))
 TellsAt w next BlockEnd = (w.esi ≡ w.size) × (w.begun ≢ length (sizes w.partition))
-TellsAt w next Passed = (n : SymbolId × Option ℕ) × (next ≡ Some n)
+TellsAt w next Passed = (n : Held) × (next ≡ Some n)
 TellsAt w next Fitting = (w.esi ≢ w.size) × ((n : ℕ) × (next ≡ Some (symbol_id w.sbn w.esi, Some n))
     × (fits w.partition (symbol_id w.sbn w.esi) n ≡ true))
 TellsAt w next (Wanted r) =
@@ -95,13 +96,10 @@ module _ (w : PartitionScan) (next : Next) (p : IsPlace w) where
   until-within h = let t = told-at w _ _ h in until-beyond w _ (inside t.0) t.1
 
   pub block-next : upcoming_at w next ≡ BlockEnd → w.begun < length (sizes w.partition)
-  block-next h =
-      let t = told-at w _ _ h in let l = p.begun in let n = t.1 in omega (arith, l, n)
+  block-next h = omega (arith, p.begun, (told-at w _ _ h).1)
 
   pub wanted-small : (r : Reason) → upcoming_at w next ≡ Wanted r → w.esi < 65536
-  wanted-small r h =
-      let t = told-at w _ _ h in let l = inside t.0 in let m = p.longest in
-      omega (arith, l, m)
+  wanted-small r h = omega (arith, inside (told-at w _ _ h).0)
 
   -- after a turn a walk is in its place
   place-on : (l : Upcoming) (o : Option Gap) → upcoming_at w next ≡ l → ended_run w.run l ≡ o
@@ -114,30 +112,16 @@ module _ (w : PartitionScan) (next : Next) (p : IsPlace w) where
     running = tt;
   }
   place-on BlockEnd None e h s =
-      let b = block-next e in
-      record {
-        blocks = p.blocks;
-        begun = omega (arith, b);
-        within = omega arith;
-        longest = s;
-        running = rw (no-run w.run BlockEnd tt h) tt;
-      }
+      record { blocks = p.blocks; begun = omega (arith, block-next e); within = omega arith; longest = s; running = rw (no-run w.run _ tt h) tt }
   place-on Fitting None e h s =
-      let l = inside (told-at w _ _ e).0 in
-      record {
-        blocks = p.blocks;
-        begun = p.begun;
-        within = omega (arith, l);
-        longest = s;
-        running = rw (no-run w.run Fitting tt h) tt;
-      }
+      record { blocks = p.blocks; begun = p.begun; within = omega (arith, inside (told-at w _ _ e).0); longest = s; running = rw (no-run _ Fitting tt h) tt }
   place-on (Wanted r) None e h s =
       let t = told-at w _ _ e in
       let l = inside t.0 in
       record {
         blocks = p.blocks;
         begun = p.begun;
-        within = omega (arith, l);
+        within = omega (arith);
         longest = s;
         running = run-ends _ _ r _ p.running h t.1;
       }
@@ -146,7 +130,7 @@ module _ (w : PartitionScan) (next : Next) (p : IsPlace w) where
     begun = p.begun;
     within = (until-within e).1;
     longest = s;
-    running = rw (no-run w.run NotHeld tt h) tt;
+    running = rw (no-run _ NotHeld tt h) tt;
   }
   place-on other None e h s = p
 

@@ -1,4 +1,5 @@
 -- The facts of a store rise, and how many they are (specs/Content).
+use Rattle.flute_store.proofs.Maps.{Objects, Sessions}
 use Rattle.std.proofs.Common.{rules}
 use Rattle.std.proofs.Common.{ℕ, ◌+◌, ◌*◌, ◌≤◌, List, [], ◌∷◌, length, arith, length-append, ◌≡◌}
 use Rattle.std.proofs.Common.{◌++◌, refl, ap, ◌∙◌}
@@ -7,8 +8,8 @@ use Rattle.flute_store.proofs.StoreJoin.{OrderedObject, OrderedSession, OrderedS
 use Rattle.std.proofs.Math.Nat.{mul-le-mul_right}
 use Rattle.flute_store.proofs.Shown.{equal_keys}
 use Rattle.flute_store.proofs.Common
-use Common.{flat_map, EachValue, Cell, Session, ObjectName, Key, Fact, Info}
-use Common.{InfoConflict, Symbol, SymbolConflict, Object, key_in, cell_facts, symbol_cell_facts}
+use Common.{flat_map, EachValue, Cell, Session, Key, Fact, Info}
+use Common.{InfoConflict, Symbol, Object, key_in, cell_facts, symbol_cell_facts}
 use Common.{object_facts, session_facts, content, IsObject, IsSession, IsStore, Ordering, Less}
 use Common.{ordering_then, session_total, SymbolId, Address, session_cmp, object_cmp, key_cmp}
 use Common.{symbol_id_cmp, part_cmp, address_cmp, info_address, symbol_address, address, StandAfter}
@@ -34,17 +35,16 @@ module _ {K X : Type 0} (f : K × X → List Fact) (P : X → Type 0) (most : �
 module _ {n : ℕ} where
   object_length : (key : Key) (x : Object n) → IsObject x → length (object_facts key x) ≤ n + 1
   object_length key x p =
-      let c = within_limit (λ e. symbol_cell_facts key e.0 e.1) (λ _. Unit {0}) 1
-      (λ e _. cell_length (Symbol _ _) (SymbolConflict _ _) e.1) n x.symbols
-      (any_value _) p.symbols_are.within in omega
-      (arith, length-append {A = Fact}, cell_length (Info key) (InfoConflict key) x.info, c)
+      let c = within_limit (λ e. symbol_cell_facts key e.0 _) (λ _. Unit {0}) 1
+      (λ e _. cell_length (Symbol _ _) _ e.1) n x.symbols (any_value _) p.symbols_are.within in
+      omega (arith, length-append {A = Fact}, cell_length (Info key) (InfoConflict key) x.info, c)
 
-  session_length : (o : ℕ) (session : Session) (os : List (ObjectName × Object n)) → IsSession o os
+  session_length : (o : ℕ) (session : Session) (os : Objects n) → IsSession o os
       → length (session_facts session os) ≤ o * (n + 1)
   session_length = search (rules, within_limit, object_length)
 
   -- each object has its information and no more symbols than the limit
-  pub content_length : (s o : ℕ) (m : List (Session × List (ObjectName × Object n))) → IsStore s o m
+  pub content_length : (s o : ℕ) (m : Sessions n) → IsStore s o m
       → length (content m) ≤ s * (o * (n + 1))
   content_length = search (rules, within_limit, session_length)
 
@@ -111,7 +111,7 @@ after_info key (f ∷ F) s = search (rules, after_info key F s.1)
 module _ {n : ℕ} where
   object-rises : (key : Key) (x : Object n) → OrderedObject x → IsRising (object_facts key x)
   object-rises key x p =
-      rising-append (info_cell_facts key x.info) (symbols_facts key x.symbols)
+      rising-append (info_cell_facts key _) (symbols_facts key x.symbols)
       (cell-rises _ _ x.info)
       (groups-rise symbols x.symbols p (any_value x.symbols))
       (cell-stands (λ a. StandAfter a (symbols_facts key x.symbols)) _ _ (λ v. later) later x.info)
@@ -137,14 +137,14 @@ module _ {n : ℕ} where
   object-stands : (P : Address → Type 0) (key : Key) → ((a : Address) → a.key ≡ key → P a)
       → (x : Object n) → Stand P (object_facts key x)
   object-stands P key h x =
-      each-append (Of P) (info_cell_facts key x.info) (symbols_facts key x.symbols)
-      (cell-stands P _ _ (λ v. h (info_address key) refl) (h (info_address key) refl) x.info)
-      (each-flat_map (Of P) (λ e. symbol_cell_facts key e.0 e.1)
-      (λ e. cell-stands P _ _ (λ v. h (symbol_address key e.0) refl)
-      (h (symbol_address key e.0) refl) e.1) x.symbols)
+      each-append (Of P) (info_cell_facts _ x.info) (symbols_facts _ x.symbols)
+      (cell-stands P _ _ (λ v. h _ refl) (h _ refl) x.info)
+      (each-flat_map (Of P) (λ e. symbol_cell_facts key _ e.1)
+      (λ e. cell-stands P _ _ (λ v. h (symbol_address _ e.0) refl)
+      (h _ refl) _) x.symbols)
 
   -- the facts of an object, then of a session, rise
-  session-rises : (session : Session) (os : List (ObjectName × Object n)) → OrderedSession os
+  session-rises : (session : Session) (os : Objects n) → OrderedSession os
       → IsRising (session_facts session os)
   session-rises session os p =
       groups-rise objects os p.ordered p.each
@@ -164,14 +164,13 @@ module _ {n : ℕ} where
       }
 
   session-stands : (P : Address → Type 0) (session : Session)
-      → ((a : Address) → a.key.session ≡ session → P a) → (os : List (ObjectName × Object n))
+      → ((a : Address) → a.key.session ≡ session → P a) → (os : Objects n)
       → Stand P (session_facts session os)
   session-stands P session h os = each-flat_map (Of P) (λ e. object_facts (key_in session e.0) e.1)
       (λ e. object-stands P (key_in _ _) (λ a q. h a (ap (λ k. k.session) q)) e.1) os
 
   -- the facts of a store are in the order of their addresses
-  pub content-rises : (m : List (Session × List (ObjectName × Object n))) → OrderedStore m
-      → IsRising (content m)
+  pub content-rises : (m : Sessions n) → OrderedStore m → IsRising (content m)
   content-rises m p =
       groups-rise sessions m p.ordered p.each
     where

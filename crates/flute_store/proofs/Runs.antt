@@ -58,7 +58,7 @@ before-runs (id, r) [] s = (omega arith, tt, tt)
 before-runs (id, r) (h ∷ gaps) s = elim (cases_Bool _) [
   | inr e ↦ rw e (omega arith, e, s)
   | inl e ↦ let f = (goes_on-tells (one (id, r)) h e).1 in rw e
-      (lengthened id.esi h gaps (omega arith) s)
+      (lengthened _ h gaps (omega arith) s)
 ]
 
 pub runs-are : (ws : List Want) → AreRuns (runs ws)
@@ -94,14 +94,14 @@ unfolding runs
 gap-runs zero n a {l} r ws {gaps} h e s =
     let same : l ≡ a = omega arith in
     rw (e, same) (before-apart _ _ (rw (← same) s))
-gap-runs (suc k) n a {l} r ws {gaps} h e s = rw (gap-runs k n (a + 1) r ws (omega arith) e (apart-from n a (a + 1) l r gaps s), goes_on-next n a l r)
+gap-runs (suc k) n a {l} r ws {gaps} h e s = rw (gap-runs k n (a + 1) r _ (omega arith) e (apart-from n a (a + 1) l r _ s), goes_on-next n a l r)
 
 pub runs-unique : (gaps : List Gap) → AreRuns gaps → runs (flat_map listed gaps) ≡ gaps
 unfolding runs AreRuns
 runs-unique [] s = refl
 runs-unique (g ∷ gaps) s =
     let e : g.last + 1 - g.first ≡ suc (g.last - g.first) = omega arith in
-    rw e (gap-runs (g.last - g.first) g.sbn g.first {l = g.last} g.reason _ (omega arith)
+    rw e (gap-runs (g.last - g.first) _ g.first {l = g.last} _ _ (omega arith)
     (runs-unique _ s.2) s.1)
 
 -- a gap that differs from the one of w
@@ -128,8 +128,4 @@ pub runs-first : (n a b : ℕ) (r : Reason) (ws : List Want) → a < b → Elsew
       reason = r;
     } ∷ runs ws
 runs-first n a b r ws l e =
-    let k : b - a ≡ suc (b - 1 - a) = omega arith in
-    let z : b - 1 + 1 ≡ b = omega arith in
-    let f = subst (λ x. Elsewhere (symbol_id n x) r ws) (sym z) e in
-    rw k (gap-runs (b - 1 - a) n a {l = b - 1} r ws (omega arith) refl
-    (apart-runs (gap n a _ r) _ f))
+    let k : b - a ≡ suc (b - 1 - a) = omega arith in let z : b - 1 + 1 ≡ b = omega arith in rw k (gap-runs (b - 1 - a) n a {l = b - 1} r _ (omega arith) refl (apart-runs (gap n a _ r) _ (subst (λ x. Elsewhere (symbol_id n x) r ws) (sym z) e)))

@@ -27,9 +27,8 @@ none-before : (key : Key) (info : Information) (F G : List Fact)
     → IsRising (F ++ (Info key info ∷ G)) → AllByRecursion (λ f. (address f).key ≡ key → ⊥) F
 none-before key info [] G r = tt
 none-before key info (f ∷ F) G r = (
-  (λ e. not-less _ (address f).part _ e (stands-before F G (Info _ _) f r.0)),
-  none-before _ info
-      F G r.1,
+  (λ e. not-less _ (address f).part _ e (stands-before F G _ f r.0)),
+  none-before _ info F G r.1,
 )
 
 -- what a scan passed is a part of the facts F, which rise, without a gap: the information first
@@ -46,15 +45,12 @@ module _ {s : Scanned} {F before rest : List Fact} (a : Among s F before rest) w
   -- what the facts show is what was passed and what the others show
   pub shown-all : shown s.key F ≡ shown s.key s.facts ++ shown s.key rest
   shown-all =
-      let none = none-before _ _ _ _
-      (subst IsRising all-again a.rising) in rw (a.all, shown-append s.key before (s.facts ++ rest), shown-none s.key before none, shown-append s.key s.facts rest)
+      rw (a.all, shown-append s.key _ (s.facts ++ rest), shown-none s.key _ (none-before _ _ _ _ (subst IsRising all-again a.rising)), shown-append s.key _ rest)
 
   -- and the information is in F
   pub information-at : fact_at F (info_address s.key) ≡ Some (Info s.key s.info)
   information-at =
-      let info = Info s.key s.info in
-      let there = Contains-append_right before (info ∷ (a.symbols ++ rest)) _ (first_is _ _) in
-      rising_tells F _ a.rising (rw all-again there)
+      rising_tells F _ a.rising (rw all-again (Contains-append_right _ ((Info s.key s.info) ∷ (a.symbols ++ rest)) _ (first_is _ _)))
 
 pub wants-shown : (F : List Fact) (key : Key) (info : Information) → IsRising F
     → wants F key info ≡ wanted info (shown key F) (ids info)
@@ -67,7 +63,7 @@ come-as : (key : Key) (next : Next) (rest : List Fact) → ComeNext key next res
     → ComesAs key (coming_fact key next) (shown key rest)
 unfolding shown
 come-as key None rest h = shown-none _ _ h
-come-as key (Some n) rest h = (shown key h.0, ap (shown key) h.1)
+come-as key (Some n) rest h = (shown key h.0, rw h.1)
 
 -- ---- what the walks of a scan show of all facts
 module _ {o : ScanState} {s : Scanned} {next : Next} (q : Scans o (announced s next))

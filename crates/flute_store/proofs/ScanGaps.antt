@@ -1,10 +1,10 @@
 -- What a scan has passed and given after a turn that begins a block or gives a gap (specs/Scan).
+use Rattle.flute_store.proofs.Maps.{Entry}
 use Rattle.std.proofs.Common.{rules}
 use Rattle.flute_store.proofs.ScanFacts.{ordered-all, coming-all, not-whole-all}
 use Rattle.std.proofs.Common.{◌≡◌, ℕ, ◌+◌, ◌<◌, List, [], ◌∷◌, ◌++◌, length, Option, Some, None}
 use Rattle.std.proofs.Common.{refl, sym, ap, ◌∙◌, subst, inl, inr, arith, append_assoc, append-nil}
 use Rattle.std.proofs.lemmas.Grind.{flat_map-append}
-use Rattle.flute_store.proofs.{Lookups.{Entry}}
 use Rattle.flute_store.proofs.{HowMany.{how-append}}
 use Rattle.flute_store.proofs.{Turns.{turn-turns}}
 use Rattle.flute_store.proofs.Places.{told-at, until-within, block-next, Kind, kind}
@@ -37,11 +37,7 @@ module _ {o : ScanState} {s : Scanned} {next : Next} {t : Option Turn} {x : Part
       → EachValue IsKnown more → ComesAs s.key (coming_fact s.key next) more
       → TurnsTo (walk_of o.walk more) t (walk_of x (held_after t more))
   turns-at more r k h =
-      let walk = (p.scans.walks _ r k h).walk in
-      let place = subst (λ (y : Option Turn × PartitionScan). IsPlace y.1) p.turn_is p.place in
-      subst (λ (y : Option Turn × PartitionScan). TurnsTo (walk_of o.walk more) y.0
-      (walk_of y.1 (held_after y.0 more))) (sym p.turn_is)
-      (turn-turns _ _ _ (shows-next _ _ _ h) walk place)
+      subst (λ (y : Option Turn × PartitionScan). TurnsTo (walk_of o.walk more) y.0 (walk_of y.1 (held_after y.0 more))) (sym p.turn_is) (turn-turns _ _ _ (shows-next _ _ _ h) (p.scans.walks _ r k h).walk (subst (λ (y : Option Turn × PartitionScan). IsPlace y.1) p.turn_is p.place))
 
 pub symbols-same : (x y : PartitionScan) → x ≡ y
     → symbols_left (walk_of x []) ≡ symbols_left (walk_of y [])
@@ -61,26 +57,7 @@ moved-done = search rules
 pub scan-begun : {o : ScanState} {s : Scanned} {next : Next} {x : PartitionScan}
     → Step o s next None x → Scans (record o { walk = x }) (announced s next)
 scan-begun {o} {s} {next} {x} p =
-    let q = p.scans in
-    let k = step-kind p in
-    let l = told-at o.walk (held_next next) Upcoming.BlockEnd k.0 in
-    let b = block-next o.walk (held_next next) p.scan.place k.0 in
-    let a : symbols_left (walk_of x []) ≡ symbols_left (walk_of o.walk []) = symbols-same x
-    (after_block o.walk) k.2 ∙ begin-symbols o.walk l.0 b in
-    let r : x.run ≡ o.walk.run = ap (λ (y : PartitionScan). y.run) k.2 in
-    record {
-      key_is = q.key_is;
-      info_is = q.info_is;
-      begins = q.begins;
-      walks = λ more d n h. let w = turns-at p more d n h in record {
-        walk = w.0.walk;
-        gaps_are = (q.walks more d n h).gaps_are ∙ ap (λ ws. s.given ++ runs ws)
-            (sym w.0.left_is);
-      };
-      done = moved-done (announced s next) _ _ (record { symbols = a; run = r }) s.bytes q.done;
-      counts = q.counts;
-      ahead_is = q.ahead_is ∙ (λ i. length (sym a i) + one_run (sym r i));
-    }
+    let q = p.scans in let k = step-kind p in let a : symbols_left (walk_of x []) ≡ symbols_left (walk_of o.walk []) = symbols-same x (after_block o.walk) k.2 ∙ begin-symbols o.walk (told-at o.walk (held_next next) Upcoming.BlockEnd k.0).0 (block-next o.walk (held_next next) p.scan.place k.0) in let r : x.run ≡ o.walk.run = ap (λ (y : PartitionScan). y.run) k.2 in record { key_is = q.key_is; info_is = q.info_is; begins = q.begins; walks = λ more d n h. let w = turns-at p more d n h in record { walk = w.0.walk; gaps_are = (q.walks more d n h).gaps_are ∙ ap (λ ws. s.given ++ runs ws) (sym w.0.left_is) }; done = moved-done (announced s next) _ _ (record { symbols = a; run = r }) s.bytes q.done; counts = q.counts; ahead_is = q.ahead_is ∙ (λ i. length (sym a i) + one_run (sym r i)) }
 
 -- ---- a gap was given
 

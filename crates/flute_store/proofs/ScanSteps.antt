@@ -1,4 +1,5 @@
 -- What a scan has passed and given after a turn (specs/Scan).
+use Rattle.flute_store.proofs.Maps.{Entry, Held, HeldBytes}
 use Rattle.std.proofs.Common.{rules}
 use Rattle.flute_store.proofs.ScanFacts.{Among, gaps-all, information-all, information-at}
 use Rattle.flute_store.proofs.ScanFacts.{shown-all}
@@ -9,7 +10,7 @@ use Rattle.flute_store.proofs.ScanSymbols.{keeps-end, held-same, passed-done, fi
 use Rattle.flute_store.proofs.ScanSymbols.{first-wanted}
 use Rattle.std.proofs.Common.{◌≡◌, ℕ, ◌+◌, ◌≤◌, List, [], ◌∷◌, ◌++◌, length, take, Option, Some}
 use Rattle.std.proofs.Common.{None, refl, sym, ap, ◌∙◌, subst, arith, append-nil}
-use Rattle.flute_store.proofs.{Lookups.{Entry}, GapSteps.{gaps-end}}
+use Rattle.flute_store.proofs.{GapSteps.{gaps-end}}
 use Rattle.flute_store.proofs.{HowMany.{how-all, listed-length}, BytesSteps.{found-of}}
 use Rattle.flute_store.proofs.Upcoming.{upcoming-end}
 use Rattle.flute_store.proofs.{WholeObjects.{gapless-whole}}
@@ -17,7 +18,7 @@ use Rattle.flute_store.proofs.Places.{told-at, Kind, kind, within-turn, within-g
 use Rattle.flute_store.proofs.Shown.{shown-ordered, shown-at}
 use Rattle.flute_store.proofs.ScanTurns.{cell_of, end-symbols, value-more}
 use Rattle.flute_store.proofs.Common
-use Common.{flat_map, Contains, IfSome, option_map, Bor, none-some, value_at, IsOrdered, Cell, One}
+use Common.{flat_map, Contains, IfSome, option_map, none-some, value_at, IsOrdered, Cell, One}
 use Common.{symbol_address, fact_at, IsRising, symbol_id_cmp, Key, SymbolId, Fact, Turn}
 use Common.{PartitionScan, Counted, listed, gaps, object, value_bytes, Whole, CanAdd, AddsTurn}
 use Common.{held_bytes, walk_of, symbols_left, gaps_left, IsWalk, IsPlace, turn_of, shown, Scanned}
@@ -34,8 +35,8 @@ values-shown : (F : List Fact) (key : Key) (es more : List Entry) (xs : List Sym
     (λ id. value_bytes (fact_at F (symbol_address key id))) xs
 unfolding held_bytes
 values-shown F key es more xs r e h =
-    let told = λ (id : SymbolId). sym (ap value_bytes (shown-at key id F r) ∙ found-of key id
-    (value_at symbol_id_cmp (shown _ F) id)) in sym (held-same es more xs h) ∙ rw (← e)
+    let told = λ (id : SymbolId). sym (ap value_bytes (shown-at key _ F r) ∙ found-of key id
+    (value_at symbol_id_cmp (shown _ F) _)) in sym (held-same es more _ h) ∙ rw (← e)
     (λ i. flat_map (λ id. told id i) xs)
 
 -- the bytes are a prefix of the object
@@ -71,11 +72,7 @@ whole-bytes : {s : Scanned} (w : PartitionScan) {F before rest : List Fact}
 unfolding object first-part
 whole-bytes w None d a l g = tt
 whole-bytes {s} w {F} (Some bytes) d a l g =
-    let p = first-part d a in (
-      gapless-whole F _ _ (information-at a) (g ∙ d.no_gap),
-      rw
-          (d.all ∙ ap (λ xs. d.done ++ xs) l ∙ append-nil d.done, ← p.values),
-    )
+    (gapless-whole F _ _ (information-at a) (g ∙ d.no_gap), rw (d.all ∙ ap (λ xs. d.done ++ xs) l ∙ append-nil _, ← (first-part d a).values))
 
 -- after the last turn all gaps were given, and the counts are those of the gaps
 pub end-given : {o : ScanState} {s : Scanned} {x : PartitionScan} → Step o s None (Some Turn.End) x
@@ -83,21 +80,15 @@ pub end-given : {o : ScanState} {s : Scanned} {x : PartitionScan} → Step o s N
 end-given {o} {s} {x} p =
     let q = p.scans in
     let k = step-kind p in
-    let l = told-at o.walk None Upcoming.End k.0 in
+    let l = told-at o.walk None _ k.0 in
     let same : (more : List Entry) → gaps_left (walk_of x more) ≡ gaps_left (walk_of o.walk more) =
-    λ more. ap (λ (y : PartitionScan). gaps_left (walk_of y more)) k.2 in
+    λ more. rw k.2 in
     let none : (more : List Entry) → gaps_left (walk_of o.walk more) ≡ [] = λ more. gaps-end
-    (walk_of o.walk more) (sym (upcoming-end (walk_of o.walk more) l.0 l.1)) k.1 in (
+    (walk_of _ more) (sym (upcoming-end _ l.0 l.1)) k.1 in (
       (
         refl,
-        λ F f.
-            let g : Follows s None F = record {
-              before = f.before;
-              rest = f.rest;
-              all = f.all;
-              rising = f.rising;
-              come = f.come;
-            } in
+        λ F f. let g : Follows s None F
+            = record { before = f.before; rest = f.rest; all = f.all; rising = f.rising; come = f.come } in
             let a : gaps F s.key s.info ≡ s.given = gaps-all q g ∙ ap (λ gs. s.given ++ gs)
             (none (shown s.key f.rest)) ∙ append-nil s.given in record {
               information = information-all q g;
@@ -129,7 +120,7 @@ end-given {o} {s} {x} p =
 abbrev state_of : ScanState → PartitionScan → Counted → ScanState
 state_of o x c = record o { walk = x; wanted = c }
 
-pub can-add : (o : ScanState) (h : Option (SymbolId × Option ℕ)) (t : Option Turn)
+pub can-add : (o : ScanState) (h : Option Held) (t : Option Turn)
     (x : PartitionScan) → IsScan o → (t, x) ≡ turn_of o.walk h → CanAdd t o.wanted
 can-add o h (Some (Turn.Gap g)) x sc e = (
   (within-gap h o.wanted sc.place sc.within g x (kind _ h _ x e)).0,
@@ -139,11 +130,11 @@ can-add o h (Some (Turn.Gap g)) x sc e = (
 can-add o h t x sc e = tt
 
 -- the partition stays, and no block is begun twice
-moved-on : (w : PartitionScan) (h : Option (SymbolId × Option ℕ)) (t : Option Turn)
+moved-on : (w : PartitionScan) (h : Option Held) (t : Option Turn)
     (x : PartitionScan) → Kind w h t x → (x.partition ≡ w.partition) × (w.begun ≤ x.begun)
 moved-on = search rules
 
-pub begins-blocks : {o old : ScanState} (h : Option (SymbolId × Option ℕ)) {t : Option Turn}
+pub begins-blocks : {o old : ScanState} (h : Option Held) {t : Option Turn}
     {x : PartitionScan} (c : Counted)
     → o ≡ old → (t, x) ≡ turn_of o.walk h → IsPlace x → BeginsBlocks old (state_of o x c)
 begins-blocks {o} h {t} {x} c v e p =
@@ -154,24 +145,15 @@ pub begins-more : (a b c : ScanState) → BeginsBlocks a b → BeginsBlocks b c 
 begins-more = search rules
 
 -- after a step a scan is still in order: its place, its counts and its partition
-pub step-scan : {o : ScanState} (h : Option (SymbolId × Option ℕ)) (t : Option Turn)
+pub step-scan : {o : ScanState} (h : Option Held) (t : Option Turn)
     {x : PartitionScan} (c : Counted) → IsScan o → (t, x) ≡ turn_of o.walk h → IsPlace x
     → AddsTurn t o.wanted c → IsScan (state_of o x c)
 step-scan {o} h (Some (Turn.Gap g)) {x} c sc e pl a =
-    let k = kind _ h _ x e in
-    let w = (within-gap h o.wanted sc.place sc.within g x k).1 in
-    let within : CountsWithin x c = omega (arith, w, how-all (listed g), listed-length g) in
-    record {
-      place = pl;
-      within = within;
-      partition = (moved-on o.walk h (Some (Turn.Gap g)) x k).0 ∙ sc.partition;
-    }
+    let k = kind _ h _ x e in let within : CountsWithin x c = omega (arith, (within-gap h o.wanted sc.place sc.within g x k).1, how-all (listed g), listed-length g) in record { place = pl; within = within; partition = (moved-on o.walk h (Some (Turn.Gap g)) x k).0 ∙ sc.partition }
 step-scan {o} h t {x} c sc e pl a =
-    let k = kind _ h t x e in
-    let w = within-turn h _ sc.place sc.within t x tt k in
-    record { place = pl; within = rw a w; partition = (moved-on _ h t x k).0 ∙ sc.partition }
+    let k = kind _ h t x e in record { place = pl; within = rw a (within-turn h _ sc.place sc.within t x tt k); partition = (moved-on _ h t x k).0 ∙ sc.partition }
 
-ordered-next : (s : Scanned) (n : SymbolId × Option (Bor (List ℕ))) → CanFollow s (Some n)
+ordered-next : (s : Scanned) (n : HeldBytes) → CanFollow s (Some n)
     → IsOrdered symbol_id_cmp (shown s.key s.facts ++ (n.0, cell_of n.1) ∷ [])
 ordered-next s n f = subst (IsOrdered symbol_id_cmp) (shown-next s n) (shown-ordered _ _ f)
 
@@ -180,13 +162,11 @@ same-counts : (o : ScanState) (s : Scanned) (x : PartitionScan) (c : Counted) �
     → Scans (record o { walk = x }) s → Scans (state_of o x c) s
 same-counts = search rules
 
-passed-end : {o : ScanState} {s : Scanned} {n : SymbolId × Option (Bor (List ℕ))}
+passed-end : {o : ScanState} {s : Scanned} {n : HeldBytes}
     {x : PartitionScan} → Step o s (Some n) (Some Turn.End) x → (c : Counted) → c ≡ o.wanted
     → Stepped s (Some n) (state_of o x c) (Some Turn.Passed)
 passed-end {o} {s} {n} {x} p c a =
-    let done = passed-done s n (Some n) s.bytes s.bytes (step-kind p).2 p.scans.done in
-    let r = symbol-passed o s n x s.bytes p.scans (keeps-end p) done in
-    (behind-symbol s n s.bytes x, r.0, same-counts o (behind-symbol s n _ x) x c a r.1)
+    let r = symbol-passed o s n x _ p.scans (keeps-end p) (passed-done s n (Some n) s.bytes s.bytes (step-kind p).2 p.scans.done) in (behind-symbol s n s.bytes x, r.0, same-counts o (behind-symbol s n _ x) x c a r.1)
 
 -- a step of a scan, whatever turn it makes
 pub stepped : {o : ScanState} {s : Scanned} (next : Next) (t : Option Turn) {x : PartitionScan}
@@ -196,7 +176,7 @@ stepped {o} {s} next None {x} p c f a = same-counts o (announced s next) x c a (
 stepped {o} {s} next (Some (Turn.Gap g)) {x} p c f a =
     let r = gap-given p c a in (behind-gap s next g x, r.0, r.1)
 stepped {o} None (Some Turn.Fitting) p c f a =
-    let t = told-at o.walk None Upcoming.Fitting (step-kind p).0 in absurd (none-some _ t.1.1)
+    absurd (none-some _ (told-at o.walk None Upcoming.Fitting (step-kind p).0).1.1)
 stepped {o} {s} (Some n) (Some Turn.Fitting) {x} p c f a =
     let bytes = option_map (λ b. b ++ value_of n) s.bytes in
     let done = fitting-done p s.bytes bytes (ordered-next s n f) p.scans.done in

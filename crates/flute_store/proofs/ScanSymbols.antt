@@ -1,11 +1,12 @@
 -- What a scan has passed and given after a turn that passes a symbol (specs/Scan).
+use Rattle.flute_store.proofs.Maps.{Entry, HeldBytes}
 use Rattle.std.proofs.Common.{rules}
 use Rattle.flute_store.proofs.ScanFacts.{ordered-all, coming-all, walks-all, not-whole-all}
 use Rattle.flute_store.proofs.ScanGaps.{Step, step-kind, turns-at, symbols-same}
 use Rattle.std.proofs.Common.{◌≡◌, ℕ, ◌+◌, ◌<◌, true, cond, List, [], ◌∷◌, ◌++◌, length, Option}
 use Rattle.std.proofs.Common.{Some, None, refl, sym, ap, ◌∙◌, subst, inl, inr, arith, append_assoc}
 use Rattle.std.proofs.lemmas.Grind.{flat_map-append}
-use Rattle.flute_store.proofs.{Lookups.{Entry}, Runs.{goes_on-tells}, GapSteps.{gaps-end}}
+use Rattle.flute_store.proofs.{Runs.{goes_on-tells}, GapSteps.{gaps-end}}
 use Rattle.flute_store.proofs.{KeyLists.{one_is, first_is}}
 use Rattle.flute_store.proofs.Upcoming.{told as told-upcoming, taken, taken-left, upcoming-end}
 use Rattle.flute_store.proofs.{Turns.{Steps, step-keeps}}
@@ -14,7 +15,7 @@ use Rattle.flute_store.proofs.Shown.{shown-append, shown-known}
 use Rattle.flute_store.proofs.ScanTurns.{cell_of, shown-told, known-cell, take-symbols, value-more}
 use Rattle.flute_store.proofs.ScanTurns.{value-last}
 use Rattle.flute_store.proofs.Common
-use Common.{Contains, IfSome, option_map, Bor, keys_of, cases_Bool}
+use Common.{Contains, IfSome, option_map, keys_of, cases_Bool}
 use Common.{Contains-append_cases, Contains-append_right, sorted_tail, IsKnown, value_at, IsOrdered}
 use Common.{EachValue, Cell, One, symbol_id_cmp, symbol_id, ids, fits, SymbolId, Fact, Reason, Gap}
 use Common.{Turn, PartitionScan, runs, one, goes_on, before, gaps, wanted, found_bytes, held_bytes}
@@ -23,8 +24,7 @@ use Common.{IsNotWhole, Scanned, next_fact, coming_fact, Follows, PassedNext, va
 use Common.{announced, held_next, ScanState, ComesAs, one_run, FitsSoFar, Scans}
 use Rattle.flute_store.specs.declared.partition_scan.Upcoming.TheVariants as Upcoming
 
-abbrev pub behind-symbol : Scanned → SymbolId × Option (Bor (List ℕ)) → Option (List ℕ)
-    → PartitionScan → Scanned
+abbrev pub behind-symbol : Scanned → HeldBytes → Option (List ℕ) → PartitionScan → Scanned
 behind-symbol s n bytes x = record s {
   facts = s.facts ++ next_fact s.key n ∷ [];
   bytes = bytes;
@@ -32,23 +32,23 @@ behind-symbol s n bytes x = record s {
   ahead = length (symbols_left (walk_of x [])) + one_run x.run;
 }
 
-pub shown-next : (s : Scanned) (n : SymbolId × Option (Bor (List ℕ))) → shown s.key
+pub shown-next : (s : Scanned) (n : HeldBytes) → shown s.key
     (s.facts ++ next_fact s.key n ∷ []) ≡ shown s.key s.facts ++ (n.0, cell_of n.1) ∷ []
 unfolding shown
 shown-next = search (rules, shown-append, shown-told)
 
 -- whatever follows, what is left is the same after the symbol
-abbrev pub KeepsAt : ScanState → Scanned → SymbolId × Option (Bor (List ℕ)) → PartitionScan → Type 0
+abbrev pub KeepsAt : ScanState → Scanned → HeldBytes → PartitionScan → Type 0
 KeepsAt o s n x = (more : List Entry) → IsOrdered symbol_id_cmp
     (shown s.key s.facts ++ ((n.0, cell_of n.1) ∷ more)) → EachValue IsKnown more → IsWalk
     (walk_of x more) ×
     (gaps_left (walk_of x more) ≡ gaps_left (walk_of o.walk ((n.0, cell_of n.1) ∷ more)))
 
-pub next-comes : (s : Scanned) (n : SymbolId × Option (Bor (List ℕ))) (more : List Entry)
+pub next-comes : (s : Scanned) (n : HeldBytes) (more : List Entry)
     → ComesAs s.key (coming_fact s.key (Some n)) ((n.0, cell_of n.1) ∷ more)
 next-comes s n more = (more, ap (λ es. es ++ more) (sym (shown-told _ n)))
 
-pub symbol-passed : (o : ScanState) (s : Scanned) (n : SymbolId × Option (Bor (List ℕ)))
+pub symbol-passed : (o : ScanState) (s : Scanned) (n : HeldBytes)
     (x : PartitionScan) (bytes : Option (List ℕ)) → Scans o (announced s (Some n)) → KeepsAt o s n x
     → IfSome bytes (λ b. FitsSoFar (behind-symbol s n bytes x) x b) → PassedNext s n bytes
     (behind-symbol s n bytes x) × Scans (record o { walk = x }) (behind-symbol s n bytes x)
@@ -60,7 +60,7 @@ symbol-passed o s n x bytes q k d = (
     begins =
         (q.begins.0 ++ next_fact _ n ∷ [], ap (λ fs. fs ++ next_fact s.key n ∷ []) q.begins.1);
     walks = λ more r m h. let p = ap (λ es. es ++ more) (shown-next s n) ∙ append_assoc
-        (shown _ _) ((n.0, cell_of _) ∷ []) more in
+        (shown _ _) _ more in
         let r' = subst (IsOrdered symbol_id_cmp) p r in
         let y = k _ r' m in
         record {
@@ -76,40 +76,30 @@ symbol-passed o s n x bytes q k d = (
 )
 
 -- where a turn keeps what is left
-pub keeps-at : {o : ScanState} {s : Scanned} {n : SymbolId × Option (Bor (List ℕ))}
+pub keeps-at : {o : ScanState} {s : Scanned} {n : HeldBytes}
     {t : Option Turn} {x : PartitionScan} → Step o s (Some n) t x → Steps t
     → ((more : List Entry) → held_after t ((n.0, cell_of n.1) ∷ more) ≡ more) → KeepsAt o s n x
 keeps-at {o} {s} {n} {t} {x} p st h more r m =
-    let es : List Entry = (n.0, cell_of n.1) ∷ more in
-    let turned = turns-at p es r (known-cell n.1, m) (next-comes s n more) in
-    let k = step-keeps (walk_of o.walk es) t (walk_of x (held_after t es)) st turned in (
-      subst (λ es. IsWalk (walk_of x es)) (h more) k.walk,
-      ap (λ es. gaps_left (walk_of x es))
-          (sym (h more)) ∙ ap runs k.left_is,
-    )
+    let es : List Entry = (n.0, cell_of n.1) ∷ more in let k = step-keeps (walk_of o.walk es) t (walk_of x (held_after t es)) st (turns-at p es r (known-cell n.1, m) (next-comes s n more)) in (subst (λ es. IsWalk (walk_of x es)) (h more) k.walk, ap (λ es. gaps_left (walk_of x es)) (sym (h more)) ∙ ap runs k.left_is)
 
 -- held symbols after the last block
-pub keeps-end : {o : ScanState} {s : Scanned} {n : SymbolId × Option (Bor (List ℕ))}
+pub keeps-end : {o : ScanState} {s : Scanned} {n : HeldBytes}
     {x : PartitionScan} → Step o s (Some n) (Some Turn.End) x → KeepsAt o s n x
 keeps-end {o} {s} {n} {x} p more r m =
     let es : List Entry = (n.0, cell_of n.1) ∷ more in
     let k = step-kind p in
-    let l = told-at o.walk (held_next (Some n)) Upcoming.End k.0 in
-    let w = (p.scans.walks es r (known-cell n.1, m) (next-comes s n more)).walk in
+    let l = told-at _ (held_next (Some n)) _ k.0 in
+    let w = (p.scans.walks es r (known-cell n.1, m) (next-comes s n _)).walk in
     let g : (held : List Entry) → gaps_left (walk_of o.walk held) ≡ [] = λ held. gaps-end
-    (walk_of o.walk held) (sym (upcoming-end (walk_of o.walk held) l.0 l.1)) k.1 in
+    (walk_of _ held) (sym (upcoming-end _ l.0 l.1)) k.1 in
     let v : IsWalk (walk_of o.walk more) = assumption (
       w,
       m,
       sorted_tail symbol_id_cmp n.0
           (keys_of more) w.ordered,
       λ (z : 0 < o.walk.esi). (w.behind z).1,
-    ) in (
-      subst
-          (λ (y : PartitionScan). IsWalk (walk_of y more)) (sym k.2) v,
-      ap
-          (λ (y : PartitionScan). gaps_left (walk_of y more)) k.2 ∙ g more ∙ sym (g es),
-    )
+    ) in
+    (subst (λ (y : PartitionScan). IsWalk (walk_of y more)) (sym k.2) v, rw (k.2, g more, ← g es))
 
 -- the bytes of held symbols stay the same with more entries after them
 pub held-same : (es more : List Entry) (xs : List SymbolId) → ((id : SymbolId) → Contains xs id →
@@ -119,8 +109,8 @@ unfolding held_bytes
 held-same es more [] h = refl
 held-same es more (x ∷ xs) h =
     let f = h x (first_is x _) in
-    (λ i. found_bytes ((value-more es more x f.0 f.1 ∙ sym f.1) i) ++ held-same es more xs
-    (λ id c. h id (Contains-append_right (x ∷ []) _ _ c)) i)
+    (λ i. found_bytes ((value-more es more x f.0 f.1 ∙ sym f.1) i) ++ held-same _ more xs
+    (λ id c. h _ (Contains-append_right (x ∷ []) _ _ c)) i)
 
 bytes-both : (es : List Entry) (xs ys : List SymbolId)
     → held_bytes es (xs ++ ys) ≡ held_bytes es xs ++ held_bytes es ys
@@ -133,10 +123,9 @@ unfolding held_bytes
 one-value = search rules
 
 -- the symbol is not of the partition, and is passed
-pub passed-done : (s : Scanned) (n : SymbolId × Option (Bor (List ℕ))) (next : Next)
-    (bytes said : Option (List ℕ)) {w x : PartitionScan} → x ≡ w
-    → IfSome bytes (λ b. FitsSoFar (announced s next) w b)
-    → IfSome bytes (λ b. FitsSoFar (behind-symbol s n said x) x b)
+pub passed-done : (s : Scanned) (n : HeldBytes) (next : Next) (bytes said : Option (List ℕ))
+    {w x : PartitionScan} → x ≡ w → IfSome bytes (λ b. FitsSoFar (announced s next) w b) → IfSome
+    bytes (λ b. FitsSoFar (behind-symbol s n said x) x b)
 passed-done s n next None said e d = tt
 passed-done s n next (Some b) said {w} {x} e d =
     let p = shown-next s n in
@@ -146,23 +135,21 @@ passed-done s n next (Some b) said {w} {x} e d =
       all = rw (d.all, ← symbols-same x w e);
       held = λ id c. let h = d.held _ c in (
         h.0,
-        ap (λ es. value_at symbol_id_cmp es id) p ∙
-            value-more (shown _ _) more id _ h.1,
+        rw (p, value-more (shown _ _) more id _ h.1),
         h.2,
       );
       values = d.values ∙ sym (ap (λ es. held_bytes es d.done) p ∙ held-same _ more _
-          (λ id c. let h = d.held _ c in (One _, h.1)));
+          (λ id c. (One _, (d.held _ c).1)));
       no_run = rw (e, d.no_run);
       no_gap = d.no_gap;
     }
 
 -- the next symbol of the partition was passed: its bytes are the next of the object
-length-is : (n : SymbolId × Option (Bor (List ℕ))) (here : SymbolId) (k : ℕ)
-    → held_next (Some n) ≡ Some (here, Some k)
-    → (n.0 ≡ here) × (cell_of n.1 ≡ One (value_of n)) × (length (value_of n) ≡ k)
+length-is : (n : HeldBytes) (here : SymbolId) (k : ℕ) → held_next (Some n) ≡ Some (here, Some k) →
+    (n.0 ≡ here) × (cell_of n.1 ≡ One (value_of n)) × (length (value_of n) ≡ k)
 length-is = search rules
 
-pub fitting-done : {o : ScanState} {s : Scanned} {n : SymbolId × Option (Bor (List ℕ))}
+pub fitting-done : {o : ScanState} {s : Scanned} {n : HeldBytes}
     {x : PartitionScan} → Step o s (Some n) (Some Turn.Fitting) x → (bytes said : Option (List ℕ)) →
     IsOrdered symbol_id_cmp (shown s.key s.facts ++ (n.0, cell_of n.1) ∷ []) → IfSome bytes
     (λ b. FitsSoFar (announced s (Some n)) o.walk b) → IfSome
@@ -238,11 +225,11 @@ runs-head id r ws = by_gaps _
       )
     ]
 
-here-is : (n : SymbolId × Option (Bor (List ℕ))) (here : SymbolId) (k : Option ℕ)
+here-is : (n : HeldBytes) (here : SymbolId) (k : Option ℕ)
     → held_next (Some n) ≡ Some (here, k) → n.0 ≡ here
 here-is = grind arith
 
-pub first-wanted : {o : ScanState} {s : Scanned} {n : SymbolId × Option (Bor (List ℕ))}
+pub first-wanted : {o : ScanState} {s : Scanned} {n : HeldBytes}
     {x : PartitionScan} → Step o s (Some n) (Some Turn.Wanted) x → (bytes : Option (List ℕ))
     → IfSome bytes (λ b. FitsSoFar (announced s (Some n)) o.walk b)
     → IfSome bytes (λ b. (F : List Fact) → Follows s (Some n) F → IsNotWhole F s.key n.0)

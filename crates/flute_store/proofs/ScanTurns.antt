@@ -1,8 +1,9 @@
 -- What a turn of a scan passes and gives (specs/PartitionScan, specs/Scan).
+use Rattle.flute_store.proofs.Maps.{Entry, HeldBytes}
 use Rattle.std.proofs.Common.{rules}
 use Rattle.std.proofs.Common.{length-append, ◌≡◌, ℕ, ◌+◌, ◌-◌, ◌<◌, List, [], ◌∷◌, ◌++◌}
 use Rattle.std.proofs.Common.{length, Option, Some, None, refl, sym, ap, ◌∙◌, arith}
-use Rattle.flute_store.proofs.Lookups.{Entry, block_from-end, blocks_from-next}
+use Rattle.flute_store.proofs.Lookups.{block_from-end, blocks_from-next}
 use Rattle.flute_parts.specs.Totality.{symbol_id_total}
 use Rattle.flute_join.proofs.Public.{value_there}
 use Rattle.std.proofs.lemmas.List.FromFn.{length-map-range_with_len}
@@ -23,7 +24,7 @@ abbrev pub cell_of : Option (Bor (List ℕ)) → Cell (List ℕ)
 cell_of None = Conflict
 cell_of (Some bytes) = One bytes.now
 
-pub shown-told : (key : Key) (n : SymbolId × Option (Bor (List ℕ)))
+pub shown-told : (key : Key) (n : HeldBytes)
     → shown_by key (next_fact key n) ≡ (n.0, cell_of n.1) ∷ []
 shown-told = search rules
 
@@ -35,14 +36,13 @@ pub shows-next : (key : Key) (next : Next) (more : List Entry)
 shows-next key None more h = h
 shows-next key (Some (id, Some b)) more h =
     (One _, h.0, rw (h.1, shown-told key (id, Some b)), refl)
-shows-next key (Some (id, None)) more h =
-    (Conflict, h.0, rw (h.1, shown-told key (id, None)), refl)
+shows-next key (Some (id, None)) more h = (Conflict, h.0, rw (h.1, shown-told _ (id, None)), refl)
 
 -- ---- the symbols that are left
 
 pub length-left : (w : Walk)
     → length (symbols_left w) ≡ (w.size - w.esi) + length (blocks_from w.partition w.begun)
-length-left w = rw (length-append (block_from w.sbn w.esi w.size) (blocks_from w.partition w.begun), length-map-range_with_len (symbol_id w.sbn) w.esi (w.size - w.esi))
+length-left w = rw (length-append (block_from w.sbn _ w.size) (blocks_from _ w.begun), length-map-range_with_len (symbol_id _) w.esi (w.size - w.esi))
 
 -- none at the end
 pub end-symbols : (w : PartitionScan) → w.esi ≡ w.size → w.begun ≡ length (sizes w.partition)
@@ -84,7 +84,7 @@ new-scan key info w c e i =
       info_is = refl;
       begins = ([], refl);
       walks = λ more r k h. record {
-        walk = rw (e more) (start-walk info more r k);
+        walk = rw (e more) (start-walk _ more r k);
         gaps_are = sym (ap gaps_left (e _) ∙ start-left _ _);
       };
       done = record {
@@ -96,9 +96,7 @@ new-scan key info w c e i =
         no_gap = refl;
       };
       counts = i;
-      ahead_is = (let z = ap (λ (xs : List SymbolId). length xs) start in
-          let o = ap one_run run in
-          omega (arith, z, o));
+      ahead_is = (omega (arith, ap (λ (xs : List SymbolId). length xs) start, ap one_run run));
     }
 
 pub new-within : (w : PartitionScan) (c : Counted) → IsCount c [] → w.run ≡ None → CountsWithin w c
@@ -106,4 +104,4 @@ new-within w c i r = omega (arith, ap run_length r, how-nil)
 
 pub counts-wants : (o : ScanState) (s : Scanned) (F : List Fact) → Scans o s → GaveAll s F
     → IsCount o.wanted (wants F s.key s.info)
-counts-wants o s F q g = rw (← (ap (flat_map listed) (sym g.gaps_are) ∙ runs-listed (wants F s.key s.info))) q.counts
+counts-wants o s F q g = rw (← (ap (flat_map listed) (sym g.gaps_are) ∙ runs-listed (wants F _ s.info))) q.counts

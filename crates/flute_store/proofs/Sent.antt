@@ -48,9 +48,7 @@ holds F key info content v same =
     record {
       told = λ f sent. Contains-from F f (kept test F f
           (Member-from _ f ((same f).1 ((told-iff key info content f v).1 sent))));
-      only = λ f c at'. let here = ap (λ k. same_key k key) at' ∙ key_itself key in
-          (told-iff key info content f v).0
-          ((same f).0 (Contains-from _ f (keeps _ F f here (Member-from F f c))));
+      only = λ f c at'. (told-iff key info content f v).0 ((same f).0 (Contains-from _ f (keeps _ F f (ap (λ k. same_key k key) at' ∙ key_itself key) (Member-from F f c))));
     }
 
 module _ (F : List Fact) (key : Key) (info : Information) (content : List ℕ)
@@ -90,8 +88,8 @@ module _ (F : List Fact) (key : Key) (info : Information) (content : List ℕ)
   sent_as [] id c = absurd (omega (arith, c.1))
   sent_as (s ∷ ss) id (zero, l, e) = (s, (0, omega arith, refl), e)
   sent_as (s ∷ ss) id (suc k, l, e) =
-      let t = sent_as ss id (k, omega (arith, l), e) in
-      (t.0, (suc t.1.0, omega (arith, t.1.1), t.1.2), t.2)
+      let t = sent_as ss _ (k, omega (arith, l), e) in
+      (t.0, (suc _, omega (arith, t.1.1), t.1.2), t.2)
 
   is_whole : IsValid info → length content ≡ info.transfer_length → Whole F key info
   is_whole v whole = record {
@@ -103,7 +101,7 @@ module _ (F : List Fact) (key : Key) (info : Information) (content : List ℕ)
               (λ (x : SymbolId). fact_at F (symbol_address key x) ≡ Some (Symbol key x s.0.1))
               s.2 (symbol_there _ s.1);
           fitting = subst (λ (x : SymbolId). fits info x (length s.0.1) ≡ true) s.2
-              (cut-fit _ content _ v whole s.1);
+              (cut-fit _ _ _ v whole s.1);
         };
   }
 
@@ -131,6 +129,6 @@ pub datagrams_give_the_object : (F : List Fact) (key : Key) {info : Information}
     (object F key info ≡ content)
 datagrams_give_the_object F key {info = info} content datagrams v whole written same =
     let sent = subst
-    (SameMembers (facts_at_key key F)) (facts_are_sent key info content _ written) same in
+    (SameMembers (facts_at_key key F)) (facts_are_sent key _ content _ written) same in
     let h = holds F _ _ _ v sent in
     (is_whole F _ _ _ h v whole, is_object F _ _ _ h v whole)

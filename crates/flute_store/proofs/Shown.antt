@@ -1,13 +1,14 @@
 -- The symbols that rising facts show of an object (specs/Shown).
+use Rattle.flute_store.proofs.Maps.{Entry}
 use Rattle.std.proofs.Common.{rules}
 use Rattle.std.proofs.Common.{◌≡◌, ℕ, Bool, cond, List, [], ◌∷◌, ◌++◌, Some, refl, sym, ap, ◌∙◌}
 use Rattle.std.proofs.Common.{subst, inl, inr, append_assoc}
 use Rattle.flute_parts.proofs.Public.{fact_at-after}
 use Rattle.flute_store.proofs.{FactEntries.{not_same}, StoreJoin.{not_symbol, same_id}}
-use Rattle.flute_store.proofs.Lookups.{Entry, Above}
+use Rattle.flute_store.proofs.Lookups.{Above}
 use Rattle.flute_store.proofs.Common
 use Common.{AllByRecursion, IsStrictlySortedBy, keys_of, Equal, is_eq, ordering_then, Equal-is}
-use Common.{cases_Bool, false≢true, IsKnown, value_at, IsOrdered, EachValue, Cell, One, Conflict}
+use Common.{cases_Bool, false≢true, IsKnown, value_at, IsOrdered, EachValue, Cell, Conflict}
 use Common.{symbol_address, address, fact_at, IsRising, StandAfter, key_cmp, symbol_id_cmp}
 use Common.{address_cmp, same_key, symbol_id_place, Key, SymbolId}
 use Common.{Fact, Info, InfoConflict, Symbol, SymbolConflict, fact_at-nil, fact_at-here}
@@ -16,7 +17,7 @@ use Common.{fact_at-elsewhere, symbol_id_itself, symbol_fact, shown_by, shown}
 pub shown-append : (key : Key) (F G : List Fact) → shown key (F ++ G) ≡ shown key F ++ shown key G
 unfolding shown
 shown-append key [] G = refl
-shown-append key (f ∷ F) G = rw (shown-append key F G, ← append_assoc (shown_by key f) (shown key F) (shown key G))
+shown-append key (f ∷ F) G = rw (shown-append key F G, ← append_assoc (shown_by _ f) (shown key F) _)
 
 -- ---- what a fact shows
 
@@ -32,9 +33,8 @@ shown-cases : (key : Key) (f : Fact) (P : List Entry → Type 0) →
     id (Some c) → P ((id, c) ∷ [])) → P (shown_by key f)
 shown-cases key (Info k i) P n s = n (λ id. not_symbol k _ _)
 shown-cases key (InfoConflict k) P n s = n (λ id. not_symbol k _ _)
-shown-cases key (Symbol k id b) P n s = shown-if _ k _ _ P
-    (λ d. n (λ j e. d (ap (λ a. a.key) e))) (λ e. s id (One b) (λ z. cc)
-    (ap (λ k. symbol_address k id) e) (ap (λ k. Some (Symbol k id b)) e))
+shown-cases key (Symbol k id b) P n s = shown-if _ k _ _ P (λ d. n (λ j e. d (ap (λ a. a.key) e)))
+    (λ e. s id _ (λ z. cc) (ap (λ k. symbol_address k id) e) (ap (λ k. Some (Symbol k id b)) e))
 shown-cases key (SymbolConflict k id) P n s = shown-if _ k _ _ P
     (λ d. n (λ j e. d (ap (λ a. a.key) e))) (λ e. s id Conflict (λ z. cc)
     (ap (λ k. symbol_address k id) e) (ap (λ k. Some (SymbolConflict k id)) e))
@@ -65,9 +65,7 @@ unfolding shown
 above-shown key id [] s = tt
 above-shown key id (f ∷ F) s =
     let rest = above-shown _ _ F s.1 in
-    shown-cases key f (λ es. Above id (keys_of (es ++ shown key F))) (λ _. rest) (λ j c k e g. let
-    first = ap (λ o. ordering_then o (symbol_id_cmp id j)) (equal_keys key) in
-    (sym first ∙ ap (address_cmp (symbol_address key id)) (sym e) ∙ s.0, rest))
+    shown-cases key f (λ es. Above id (keys_of (es ++ shown key F))) (λ _. rest) (λ j c k e g. (sym (ap (λ o. ordering_then o (symbol_id_cmp id j)) (equal_keys key)) ∙ ap (address_cmp (symbol_address _ id)) (sym e) ∙ s.0, rest))
 
 pub shown-ordered : (key : Key) (F : List Fact) → IsRising F → IsOrdered symbol_id_cmp (shown key F)
 unfolding shown IsStrictlySortedBy
@@ -75,7 +73,7 @@ shown-ordered key [] r = tt
 shown-ordered key (f ∷ F) r =
     let rest = shown-ordered _ F r.1 in
     shown-cases key f (λ es. IsOrdered symbol_id_cmp (es ++ shown key F)) (λ _. rest)
-    (λ id c k e g. (above-shown key id F (subst (λ a. StandAfter a F) e r.0), rest))
+    (λ id c k e g. (above-shown _ id F (subst (λ a. StandAfter a F) e r.0), rest))
 
 -- ---- and it is the value at the addresses
 

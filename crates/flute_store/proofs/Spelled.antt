@@ -15,5 +15,5 @@ pub spelled-size : (d : List ℕ) (c : Content) → Spells d c
     → IfSome c.symbol (λ symbol. HasSymbolSize symbol.1)
 spelled-size d c (p, parts, accepted, is) =
     let whole = ap length parts.joined in
-    let l : length p.tail ≤ 65535 = omega (arith, length-append {A = ℕ}, whole, accepted.limit) in
-    rw (ap (λ (k : Content). k.symbol) is) (tail_size p.tail l)
+    let l : length p.tail ≤ 65535 = omega (arith, length-append {A = ℕ}, accepted.limit) in
+    rw (ap (λ (k : Content). k.symbol) is) (tail_size _ l)

@@ -1,4 +1,5 @@
 -- An object and the facts of the store's content: its symbols, and what is wanted of it.
+use Rattle.flute_store.proofs.Maps.{Entry}
 use Rattle.std.proofs.Common.{rules}
 use Rattle.std.proofs.Common.{◌≡◌, ◌≢◌, ℕ, List, false, Option, Some, None, refl, sym, ap, ◌∙◌}
 use Rattle.std.proofs.Common.{◌↔◌, ◌+◌, length, arith}
@@ -46,7 +47,7 @@ unfolding wants wanted
 wants-told = search rules
 
 -- a walk begins with all symbols of the partition
-pub start-left : (info : Information) (held : List (SymbolId × Cell (List ℕ)))
+pub start-left : (info : Information) (held : List Entry)
     → gaps_left (at_start info held) ≡ runs (wanted info held (ids info))
 unfolding left
 start-left info held = rw (blocks_from-all info)
@@ -58,14 +59,14 @@ told-information = search rules
 -- the facts give an object this one information and the symbols that are held, whose gaps these
 -- are
 pub record ToldGaps {n : ℕ} (F : List Fact) (key : Key) (x : Object n) (info : Information)
-    (held : List (SymbolId × Cell (List ℕ))) (gs : List Gap) : Type 0 where
+    (held : List Entry) (gs : List Gap) : Type 0 where
   pub told : IsTold F key x
   pub info_is : x.info ≡ One info
   pub held_is : held ≡ x.symbols
   pub gaps_are : gs ≡ runs (wanted info held (ids info))
 
 -- no symbol was passed, no block begun, and no tick taken
-pub record Begins (info : Information) (held : List (SymbolId × Cell (List ℕ))) (g : GapsLeft)
+pub record Begins (info : Information) (held : List Entry) (g : GapsLeft)
     : Type 0 where
   pub held_is : g.held ≡ keys_of held
   pub begun_is : g.begun ≡ 0
@@ -75,23 +76,7 @@ pub record Begins (info : Information) (held : List (SymbolId × Cell (List ℕ)
   pub bound_is : g.bound ≡ length (sizes info) + length held + 1
 
 pub gives-gaps : {n : ℕ} {F : List Fact} {key : Key} {x : Object n} {info : Information}
-    {held : List (SymbolId × Cell (List ℕ))} (g : GapsLeft) → ToldGaps F key x info held g.gaps
+    {held : List Entry} (g : GapsLeft) → ToldGaps F key x info held g.gaps
     → Begins info held g → GivesGaps F key g
 gives-gaps {n} {F} {key} {x} {info} {held} g t b =
-    let told = t.told in
-    let k = b.held_is ∙ ap keys_of t.held_is in
-    let m = ap (λ (s : List (SymbolId × Cell (List ℕ))). length s)
-    t.held_is in record {
-      info = info;
-      information = told-information F _ x _ told t.info_is;
-      gaps_are = rw (t.gaps_are, t.held_is, ← wants-told F key x info told);
-      rising = rw k told.object.symbols_are.ordered;
-      held_are = rw k (ids_told F key x told);
-      begun_is = b.begun_is;
-      blocks_are = b.blocks_are;
-      ended_is = b.ended_is;
-      ticks_are = b.ticks_are;
-      bound_is =
-          let c = b.bound_is in
-          omega (arith, c, told.count, m);
-    }
+    let told = t.told in let k = b.held_is ∙ ap keys_of t.held_is in record { info = info; information = told-information F _ x _ told t.info_is; gaps_are = rw (t.gaps_are, t.held_is, ← wants-told F key x info told); rising = rw k told.object.symbols_are.ordered; held_are = rw k (ids_told F key x told); begun_is = b.begun_is; blocks_are = b.blocks_are; ended_is = b.ended_is; ticks_are = b.ticks_are; bound_is = let c = b.bound_is in omega (arith, told.count, ap (λ (s : List Entry). length s) t.held_is) }

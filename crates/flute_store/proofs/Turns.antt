@@ -1,8 +1,8 @@
 -- What each turn of a walk does (specs/PartitionScan, specs/HeldScan).
+use Rattle.flute_store.proofs.Maps.{Entry, Held}
 use Rattle.std.proofs.Common.{◌≡◌, ℕ, List, Option, Some, None, refl, sym, ap, ◌∙◌}
 use Rattle.std.proofs.Common.{subst, rules, ◌+◌, ◌<◌, ◌^◌, false, length, arith, Bool}
 use Rattle.std.specs.Prelude.{length}
-use Rattle.flute_store.proofs.Lookups.{Entry}
 use Rattle.flute_store.proofs.Upcoming.{told, step-pass, step-take, step-begin, ahead-trans}
 use Rattle.flute_store.proofs.GapSteps.{step-want, gap-run, gap-missing, gaps-end}
 use Rattle.flute_store.proofs.Common
@@ -33,15 +33,15 @@ want-same : (info : Information) (id : SymbolId) (cell : Cell (List ℕ)) → Is
 want-same = grind arith
 
 upcoming_next-same : (info : Information) (here : SymbolId) (held : List Entry)
-    (next : Option (SymbolId × Option ℕ)) → EachValue IsKnown held → ShowsNext held next
+    (next : Option Held) → EachValue IsKnown held → ShowsNext held next
     → upcoming_next info here next ≡ upcoming_held info here held
 upcoming_next-same = search rules
 
-until-same : (sbn size : ℕ) (held : List Entry) (next : Option (SymbolId × Option ℕ))
+until-same : (sbn size : ℕ) (held : List Entry) (next : Option Held)
     → ShowsNext held next → until_next sbn size next ≡ until_held sbn size held
 until-same = search rules
 
-module _ (w : PartitionScan) (held : List Entry) (next : Option (SymbolId × Option ℕ))
+module _ (w : PartitionScan) (held : List Entry) (next : Option Held)
     (n : ShowsNext held next) (p : IsWalk (walk_of w held)) where
   pub upcoming-same : upcoming_at w next ≡ upcoming_of (walk_of w held)
   unfolding upcoming_at upcoming_of
@@ -60,7 +60,7 @@ module _ (w : PartitionScan) (held : List Entry) (next : Option (SymbolId × Opt
   by_run Passed None e h q = (step-pass _ p (told _ _ e), e, refl)
   by_run Fitting None e h q = (step-take _ p (told _ _ e) (no-run _ _ tt h), e, refl)
   by_run (Wanted r) None e h q = (step-want _ r p (told _ _ e) h, (r, e, refl))
-  by_run NotHeld None e h q = rw (until-same w.sbn w.size held next n) (gap-missing (walk_of w held) p (no-run w.run NotHeld tt h) e)
+  by_run NotHeld None e h q = rw (until-same w.sbn _ held next n) (gap-missing _ p (no-run _ NotHeld tt h) e)
 
   -- a turn, given the next held symbol
   pub turn-turns : IsPlace (turn_of w next).1 → TurnsTo (walk_of w held) (turn_of w next).0
@@ -70,13 +70,12 @@ module _ (w : PartitionScan) (held : List Entry) (next : Option (SymbolId × Opt
 
 -- ---- the parts of a turn
 
-pub turn-ended : (w : PartitionScan) (next : Option (SymbolId × Option ℕ)) (g : Gap)
-    → ended_run w.run (upcoming_at w next) ≡ Some g
-    → (Some (Turn.Gap g), record w { run = None }) ≡ turn_of w next
+pub turn-ended : (w : PartitionScan) (next : Option Held) (g : Gap) → ended_run w.run
+    (upcoming_at w next) ≡ Some g → (Some (Turn.Gap g), record w { run = None }) ≡ turn_of w next
 unfolding turn_of
 turn-ended = search rules
 
-pub turn-at : (w : PartitionScan) (next : Option (SymbolId × Option ℕ)) (l : Upcoming) → upcoming_at
+pub turn-at : (w : PartitionScan) (next : Option Held) (l : Upcoming) → upcoming_at
     w next ≡ l → ended_run w.run (upcoming_at w next) ≡ None → turn_on w next l ≡ turn_of w next
 unfolding turn_of
 turn-at = search rules
@@ -92,7 +91,7 @@ Steps turn = Unit {0}
 pub step-keeps : (v : Walk) (t : Option Turn) (w : Walk) → Steps t → TurnsTo v t w → Keeps v w
 step-keeps = search rules
 
-walked : (v : HeldScan) (next : Option (SymbolId × Option ℕ)) (t : Option Turn) (x : PartitionScan)
+walked : (v : HeldScan) (next : Option Held) (t : Option Turn) (x : PartitionScan)
     → IsHeldScan v → ShowsNext v.held next → (t, x) ≡ turn_of v.walk next → IsPlace x
     → TurnsTo (walk_in v) t (walk_of x (held_after t v.held))
 walked v next t x p n e q = subst (λ (r : Option Turn × PartitionScan). TurnsTo (walk_in v) r.0
@@ -112,7 +111,7 @@ module _ (v : HeldScan) (x : PartitionScan) (p : IsHeldScan v) (q : IsPlace x) w
   turned = search rules
 
 -- the same, for any turn that `turn_of` returns
-pub held-turn : {v : HeldScan} (next : Option (SymbolId × Option ℕ)) {t : Option Turn}
+pub held-turn : {v : HeldScan} (next : Option Held) {t : Option Turn}
     {x : PartitionScan} {w : HeldScan} → IsHeldScan v → ShowsNext v.held next
     → (t, x) ≡ turn_of v.walk next → IsPlace x → w ≡ counted t (record v { walk = x }) → Turns v t w
 held-turn {v} next {t} {x} p n e q h = rw h (turned v x p q t (walked v next t x p n e q))
@@ -143,6 +142,6 @@ keeps-step u v w t s k h =
       walk = h.walk;
       gaps_are = ap runs l.left_is ∙ k.gaps_are;
       bound_is = h.bound_is ∙ k.bound_is;
-      onward = (let a = k.onward in let b = ticked v w t s h in omega (arith, a, b));
+      onward = (let a = k.onward in let b = ticked v w t s h in omega (arith, a));
       ahead = ahead-trans _ (walk_in v) _ k.ahead l.ahead;
     }

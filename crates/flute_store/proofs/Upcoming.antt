@@ -1,9 +1,10 @@
 -- What comes next on a walk, and what is left then (specs/PartitionScan).
+use Rattle.flute_store.proofs.Maps.{Entry}
 use Rattle.std.proofs.Common.{rules, ◌≡◌, ◌≢◌, ℕ, ◌+◌, ◌<◌, ◌≤◌, cond, List, [], ◌∷◌, ◌++◌, length}
 use Rattle.std.proofs.Common.{drop, Option, Some, None, refl, sym, ap, ◌∙◌, subst, arith}
 use Rattle.std.proofs.Common.{append_assoc, ◌-◌}
 use Rattle.flute_store.proofs.Lookups.{Above, Later, above-before, above-block, later-blocks}
-use Rattle.flute_store.proofs.Lookups.{blocks_from-next, Entry}
+use Rattle.flute_store.proofs.Lookups.{blocks_from-next}
 use Rattle.flute_store.proofs.Lookups.{wanted-past, wanted-here}
 use Rattle.flute_store.proofs.Common
 use Common.{◌==◌, option_map, cons_option, keys_of, Less, Greater}
@@ -110,7 +111,7 @@ behind-first w e es h p s =
 pub ahead-trans : (u v w : Walk) → IsAhead u v → IsAhead v w → IsAhead u w
 ahead-trans u v w a b = record {
   passed = a.passed ++ b.passed;
-  held_is = rw (a.held_is, b.held_is, ← append_assoc a.passed b.passed w.held);
+  held_is = rw (a.held_is, b.held_is, ← append_assoc a.passed b.passed _);
   onward = omega arith;
   partition_is = b.partition_is ∙ a.partition_is;
 }
@@ -140,15 +141,13 @@ step-pass w p t =
             t.first t.others t.held p.known,
         λ (z : 0 < w.esi). step-behind w t (p.behind z),
       );
-      ahead = ahead-first w _ t.first t.others t.held refl refl refl;
-      left_is =
-          let a = above-before _ (here w) _ t.before (others-above w p l) in
-          rw (
-            t.held,
-            symbols-first w l,
-            wanted-past w.partition t.first t.others
-                (here w ∷ others_left w) (t.before, a),
-          );
+      ahead = ahead-first w _ _ t.others t.held refl refl refl;
+      left_is = rw (
+        t.held,
+        symbols-first w l,
+        wanted-past w.partition t.first t.others
+            (here w ∷ others_left w) (t.before, above-before _ _ _ t.before (others-above w p l)),
+      );
       fewer = rw t.held (omega arith);
     }
 
@@ -159,7 +158,7 @@ taken run w = record w { held = drop 1 w.held; esi = w.esi + 1; run = run }
 -- taking the next held symbol: the walk stays in order, and what is left is after it
 pub taken-walk : (run : Option Gap) (w : Walk) (why : Option Reason) → IsWalk w → AtHere w why
     → EndsBefore w.sbn (w.esi + 1) run → IsWalk (taken run w)
-taken-walk = search (rules, inside-less, held-ordered, held-known, behind-first)
+taken-walk = search (rules, inside-less, held-ordered, behind-first)
 
 pub taken-left : (run : Option Gap) (w : Walk) (why : Option Reason) → IsWalk w → AtHere w why
     → left w ≡ cons_option (option_map (with_reason (here w)) why) (left (taken run w))
@@ -170,18 +169,11 @@ pub taken-keeps : (run : Option Gap) (w : Walk) (why : Option Reason) → IsWalk
     → EndsBefore w.sbn (w.esi + 1) run → pending run ++ left (taken run w) ≡ pending w.run ++ left w
     → Keeps w (taken run w)
 taken-keeps run w why p t r e =
-    let l = inside-less w p t.inside in
-    let a = ahead-first w _ t.first t.others t.held refl refl refl in
-    record {
-      walk = taken-walk _ w _ p t r;
-      left_is = e;
-      fewer = rw t.held (omega arith);
-      ahead = a;
-    }
+    record { walk = taken-walk _ w _ p t r; left_is = e; fewer = rw t.held (omega arith); ahead = ahead-first w _ t.first _ t.held refl refl refl }
 
 pub step-take : (w : Walk) → IsWalk w → AtHere w None → w.run ≡ None → Keeps w (after_take w)
 step-take w p t r = taken-keeps _ w _ p t (rw r tt)
-    (ap (λ ws. pending w.run ++ ws) (sym (taken-left w.run w _ p t)))
+    (ap (λ ws. pending w.run ++ ws) (sym (taken-left _ w _ p t)))
 
 -- where the block has no symbol left, those of the other blocks are
 pub symbols-end : (w : Walk) → w.esi ≡ w.size → symbols_left w ≡ blocks_from w.partition w.begun
@@ -191,7 +183,7 @@ symbols-end = search rules
 pub step-begin : (w : Walk) → IsWalk w → Tells w BlockEnd → w.run ≡ None
     → (after_begin w).size ≤ 65536 → Keeps w (after_begin w)
 unfolding left
-step-begin = search (rules, sizes, blocks_from-next, symbols-end)
+step-begin = search (rules, sizes, blocks_from-next)
 
 -- ---- what comes next, from its parts
 

@@ -63,7 +63,7 @@ held-from F key info id (Some (Symbol k i b)) e w =
     let p =
     fact_at-address F _ _ e in
     let q = ap (λ (a : Address). a.key) p in
-    let r : i ≡ id = let s = ap (λ (a : Address). a.part) p in cc in
+    let r : i ≡ id = let s = ap (λ a. a.part) p in cc in
     record {
       bytes = b;
       value = e ∙ (λ t. Some (Symbol (q t) (r t) b));
@@ -80,15 +80,10 @@ pub gapless-whole : (F : List Fact) (key : Key) (info : Information)
     → fact_at F (info_address key) ≡ Some (Info key info) → gaps F key info ≡ [] → Whole F key info
 unfolding wants
 gapless-whole F key info e g =
-    let w = sym (runs-listed _) ∙ ap (flat_map _) g in
-    record {
-      information = e;
-      each = λ id c. held-from F _ _ _ _ refl (map_none (λ reason. (id, reason)) _ (none-filter_map
-          (λ id. option_map (λ reason. (id, reason)) (want _ _ _)) (ids _) w c.0 id c.1 c.2));
-    }
+    record { information = e; each = λ id c. held-from F _ _ _ _ refl (map_none (λ reason. (id, reason)) _ (none-filter_map (λ id. option_map (λ reason. (id, reason)) _) (ids _) (sym (runs-listed _) ∙ ap (flat_map _) g) c.0 _ c.1 c.2)) }
 
 pub whole-gapless : (F : List Fact) (key : Key) (info : Information) → Whole F key info
     → gaps F key info ≡ []
 unfolding wants runs
 whole-gapless F key info w =
-    rw (filter_map-none (λ id. option_map (λ reason. (id, reason)) (want info id (fact_at F (symbol_address key id)))) (ids info) (λ id c. ap (option_map (λ reason. (id, reason))) (want-held F key info id (w.each id c))))
+    rw (filter_map-none (λ id. option_map (λ reason. (id, reason)) (want info _ (fact_at F (symbol_address _ id)))) (ids _) (λ id c. ap (option_map (λ reason. (id, reason))) (want-held F key _ id (w.each _ c))))

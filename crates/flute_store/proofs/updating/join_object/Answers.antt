@@ -14,7 +14,7 @@ pub join_update-requires : goal.join_update-requires
 join_update-requires g c = (
   lit< tt,
   (
-    (each-value_at object_cmp IsObject c.args.objects.now
+    (each-value_at object_cmp IsObject _
         c.args.key c.in-Some.held.now c.requires.each (sym c.in-Some.ensures.value)).symbols_are,
     c.requires.update,
   ),
@@ -30,7 +30,7 @@ pub returns-in-Some-clause-ok : goal.returns-in-Some-clause-ok
 returns-in-Some-clause-ok g c =
     let es = c.args.objects.now in
     on_ok_weaker c.join_update.result (λ p. ap (set_value (is_at (object_cmp c.args.key)) es) p ∙
-    sym (single_held object_total (object_join_laws g.row.SYMBOLS) es c.args.key c.in-Some.held.now
+    sym (single_held object_total (object_join_laws _) es c.args.key _
     (update_object c.args.update.now) c.in-Some.ensures.ordered (sym c.in-Some.ensures.value)))
     c.join_update.ensures.ok
 
@@ -44,7 +44,7 @@ returns-in-Some-clause-room g c = λ n. held-sound (objects_joined g.row.SYMBOLS
   ordered = c.in-Some.ensures.ordered;
   within = c.in-Some.ensures.within;
   each = c.requires.each;
-}) c.args.key (update_object _) (sym c.in-Some.ensures.value) (c.join_update.ensures.room n)
+}) _ (update_object _) (sym c.in-Some.ensures.value) (c.join_update.ensures.room n)
 
 pub returns-then-len-clause-full : goal.returns-then-len-clause-full
 returns-then-len-clause-full g c = λ _. inl (full-beyond (objects_joined _) _ _ _ _
@@ -62,31 +62,16 @@ made n x w p q = (λ i. record {
 
 pub returns-in_err-join_update-clause-full : goal.returns-in_err-join_update-clause-full
 returns-in_err-join_update-clause-full g c =
-    let refused = err_from_is_err_and c.from_residual.result c.from_residual.ensures.1 in
-    let is = made g.row.SYMBOLS _ (update_object c.args.update.now) (λ _. Absent) c.new.ensures in
-    rw (refused.1, refused.2) (λ e. inr (new-beyond (objects_joined g.row.SYMBOLS) _ _ _
-    ObjectBeyond c.in_default.ensures.ordered (sym c.in_default.ensures.value)
-    (subst ObjectBeyond is (c.in_err-join_update.ensures.full e))))
+    let refused = err_from_is_err_and c.from_residual.result c.from_residual.ensures.1 in rw (refused.1, refused.2) (λ e. inr (new-beyond (objects_joined _) _ _ _ ObjectBeyond c.in_default.ensures.ordered (sym c.in_default.ensures.value) (subst ObjectBeyond (made _ _ (update_object c.args.update.now) (λ _. Absent) c.new.ensures) (c.in_err-join_update.ensures.full e))))
 
 pub returns-in_err-join_update-clause-room : goal.returns-in_err-join_update-clause-room
 returns-in_err-join_update-clause-room g c =
-    let refused = err_from_is_err_and c.from_residual.result c.from_residual.ensures.1 in
-    let is = made g.row.SYMBOLS _ (update_object c.args.update.now) (λ _. Absent) c.new.ensures in
-    let room : length c.args.objects.now < g.row.OBJECTS = omega arith in
-    rw (refused.1, refused.2) (λ n. new-sound (objects_joined g.row.SYMBOLS)
-    (has-room c.args.objects.now c.in_default.ensures.ordered c.requires.each room) _ _
-    (sym c.in_default.ensures.value) room (subst IsObject is (c.in_err-join_update.ensures.room n)))
+    let refused = err_from_is_err_and c.from_residual.result c.from_residual.ensures.1 in let room : length c.args.objects.now < g.row.OBJECTS = omega arith in rw (refused.1, refused.2) (λ n. new-sound (objects_joined _) (has-room c.args.objects.now c.in_default.ensures.ordered c.requires.each room) _ _ (sym c.in_default.ensures.value) room (subst IsObject (made _ _ (update_object c.args.update.now) (λ _. Absent) c.new.ensures) (c.in_err-join_update.ensures.room n)))
 
 pub returns-clause-ok : goal.returns-clause-ok
 returns-clause-ok g c =
-    let is = made _ _ _ (λ _. Absent) c.new.ensures in
-    let added = rw (c.in_ok-join_update.ensures.ok ∙ is) at c.add_new.ensures.ok in
-    added_joins object_total (object_join_laws _) _ _ _ _ (sym c.in_default.ensures.value) _ added
+    added_joins object_total (object_join_laws _) _ _ _ _ (sym c.in_default.ensures.value) _ (rw (c.in_ok-join_update.ensures.ok ∙ (made _ _ _ (λ _. Absent) c.new.ensures)) at c.add_new.ensures.ok)
 
 pub returns-clause-room : goal.returns-clause-room
 returns-clause-room g c =
-    let is = made _ _ _ (λ _. Absent) c.new.ensures in
-    let room : length c.args.objects.now < g.row.OBJECTS = omega arith in
-    λ n. new-sound (objects_joined _) (has-room _ c.in_default.ensures.ordered c.requires.each room)
-    _ _ (sym c.in_default.ensures.value) room
-    (subst IsObject is (c.in_ok-join_update.ensures.room (λ e. cc)))
+    let room : length c.args.objects.now < g.row.OBJECTS = omega arith in λ n. new-sound (objects_joined _) (has-room _ c.in_default.ensures.ordered c.requires.each room) _ _ (sym c.in_default.ensures.value) room (subst IsObject (made _ _ _ (λ _. Absent) c.new.ensures) (c.in_ok-join_update.ensures.room (λ e. cc)))

@@ -1,8 +1,8 @@
 -- PartitionScan::turn: each branch makes the turn that specs/PartitionScan says.
 use Rattle.std.proofs.Common.{rules}
-use Rattle.std.proofs.Common.{Some, sym, ap, ◌∙◌, subst, ◌≤◌}
+use Rattle.std.proofs.Common.{Some, sym, ap, ◌∙◌}
 use Rattle.flute_store.proofs.Common
-use Common.{PartitionScan, End, BlockEnd, Passed, Fitting, Wanted, NotHeld, ended_run}
+use Common.{End, BlockEnd, Passed, Fitting, Wanted, ended_run}
 use Rattle.flute_store.proofs.Turns.{turn-ended, turn-at}
 use Rattle.flute_store.proofs.Places.{until-within, block-next, wanted-small, placed}
 use Rattle.flute_store.specs.declared.turn.Turn.TheVariants as Turn
@@ -52,12 +52,12 @@ returns-in-Wanted-clause-turn c = rw (c.want.ensures, turn-at _ _ (Wanted _) (sy
 
 pub returns-in-Wanted-clause-place : goal.returns-in-Wanted-clause-place
 returns-in-Wanted-clause-place c = placed _ _ c.requires _ _ (returns-in-Wanted-clause-turn c)
-    (subst (λ (x : PartitionScan). x.size ≤ 65536) (sym c.want.ensures) c.requires.longest)
+    (rw c.want.ensures c.requires.longest)
 
 pub returns-in-NotHeld-clause-turn : goal.returns-in-NotHeld-clause-turn
 returns-in-NotHeld-clause-turn c =
     (λ i. (Some (Turn.Gap (c.missing.ensures.gap i)), c.missing.ensures.walk i))
-    ∙ turn-at _ _ NotHeld (sym c.upcoming-upcoming.ensures ∙ c.in-NotHeld.is)
+    ∙ turn-at _ _ _ (sym c.upcoming-upcoming.ensures ∙ c.in-NotHeld.is)
     (ap (ended_run _) (sym c.upcoming-upcoming.ensures) ∙ sym c.ended_run.ensures ∙ c.in_default.is)
 
 pub returns-in-NotHeld-clause-place : goal.returns-in-NotHeld-clause-place

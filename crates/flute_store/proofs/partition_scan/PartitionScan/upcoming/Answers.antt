@@ -1,4 +1,5 @@
 -- PartitionScan::upcoming: each branch returns upcoming_at (specs/PartitionScan).
+use Rattle.flute_store.proofs.Maps.{Held}
 use Rattle.std.proofs.Common.{◌≡◌, ◌≢◌, ℕ, Option, None, Some, sym, ap, ◌∙◌, refl}
 use Rattle.flute_store.proofs.Common
 use Common.{Less, Equal, Greater, symbol_id_cmp, symbol_id, upcoming_at}
@@ -7,7 +8,7 @@ use Rattle.flute_store.proofs.Places.{at-end, at-block_end, at-inside, at-first}
 use Rattle.flute_store.proofs.partition_scan.PartitionScan.upcoming.Goals as goal
 
 -- the next held symbol is the next of the block
-at-want : (w : PartitionScan) {next : Option (SymbolId × Option ℕ)} (id : SymbolId)
+at-want : (w : PartitionScan) {next : Option Held} (id : SymbolId)
     (n : Option ℕ) (why : Option Reason) → next ≡ Some (id, n) → w.esi ≢ w.size
     → symbol_id_cmp id (symbol_id w.sbn w.esi) ≡ Equal → want_length w.partition id n ≡ why
     → upcoming_wanted why ≡ upcoming_at w next

@@ -13,24 +13,15 @@ invariant_of-self = search rules
 
 pub returns-clause-ok : goal.returns-clause-ok
 returns-clause-ok g c =
-    let join = content-join _ _ (ordered-store _ _ _ c.self.invariant)
-    (ordered-store _ _ _ c.other.invariant) in
-    let both = content c.self.inside.sessions ++ content c.other.inside.sessions in
-    rw (← c.self.view_is, ← c.other.view_is) (on_ok_weaker c.join_from.result
-    (λ p. subst (λ m. Same (content m) both) (sym p) join) c.join_from.ensures.ok)
+    let join = content-join _ _ (ordered-store _ _ _ c.self.invariant) (ordered-store _ _ _ c.other.invariant) in rw (← c.self.view_is, ← c.other.view_is) (on_ok_weaker c.join_from.result (λ p. subst (λ m. Same (content m) (content c.self.inside.sessions ++ content c.other.inside.sessions)) (sym p) join) c.join_from.ensures.ok)
 
 pub returns-clause-above : goal.returns-clause-above
 returns-clause-above g c =
-    let new = ordered-store _ _ _ (invariant_of-self g c) in
-    rw (← c.self.view_is)
-    (content-below _ _ (ordered-store _ _ _ c.self.invariant) new c.join_from.ensures.above_old)
+    rw (← c.self.view_is) (content-below _ _ (ordered-store _ _ _ c.self.invariant) (ordered-store _ _ _ (invariant_of-self g c)) c.join_from.ensures.above_old)
 
 pub returns-clause-below : goal.returns-clause-below
 returns-clause-below g c =
-    let new = ordered-store _ _ _ (invariant_of-self g c) in
-    rw (← c.self.view_is, ← c.other.view_is)
-    (content-below_join _ _ _ new (ordered-store _ _ _ c.self.invariant)
-    (ordered-store _ _ _ c.other.invariant) c.join_from.ensures.below_join)
+    rw (← c.self.view_is, ← c.other.view_is) (content-below_join _ _ _ (ordered-store _ _ _ (invariant_of-self g c)) (ordered-store _ _ _ c.self.invariant) (ordered-store _ _ _ c.other.invariant) c.join_from.ensures.below_join)
 
 pub returns-clause-full : goal.returns-clause-full
 returns-clause-full g c =

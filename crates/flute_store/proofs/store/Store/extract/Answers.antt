@@ -19,7 +19,7 @@ returns-in-Some-next-clause-bytes g c = (
 
 pub write-requires-clause-whole : goal.write-requires-clause-whole
 write-requires-clause-whole g c = ap all_left c.new-walk.ensures.start ∙ left-start c.in-One.info
-    c.iter-2.result ∙ none-wanted c.in-One.info c.new-gaps.ensures.gaps
+    _ ∙ none-wanted c.in-One.info c.new-gaps.ensures.gaps
     c.in_default-next.ensures.steps.0 c.iter.ensures.rest c.iter-2.ensures.rest
 
 pub returns-in-Ok-clause-bytes : goal.returns-in-Ok-clause-bytes
@@ -30,7 +30,7 @@ returns-in-Ok-clause-bytes g c =
       info_is = c.in-One.is;
       held_is = c.iter.ensures.rest;
       gaps_are = c.new-gaps.ensures.gaps;
-    } in writes-whole told c.iter-2.result c.in_default-next.ensures.steps.0 c.iter-2.ensures.rest
+    } in writes-whole told _ c.in_default-next.ensures.steps.0 c.iter-2.ensures.rest
     c.new-walk.ensures.start c.length-length.ensures.value c.in-Ok.ensures.bytes
     c.length-length.ensures.valid
 
@@ -42,5 +42,5 @@ returns-in-Err-clause-bytes g c =
       info_is = c.in-One.is;
       held_is = c.iter.ensures.rest;
       gaps_are = c.new-gaps.ensures.gaps;
-    } in writes-part told c.iter-2.result c.in_default-next.ensures.steps.0 c.iter-2.ensures.rest
+    } in writes-part told _ c.in_default-next.ensures.steps.0 c.iter-2.ensures.rest
     c.new-walk.ensures.start c.length-length.ensures.value c.in-Err.ensures.bytes

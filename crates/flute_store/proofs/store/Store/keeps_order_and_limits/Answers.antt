@@ -4,7 +4,7 @@ use Rattle.flute_store.proofs.store.Store.keeps_order_and_limits.Goals as goal
 
 pub returns-clause-rising : goal.returns-clause-rising
 returns-clause-rising g c = rw (← c.self.view_is) (content-rises c.self.inside.sessions
-    (ordered-store g.row.SESSIONS g.row.OBJECTS _ c.self.invariant))
+    (ordered-store _ g.row.OBJECTS _ c.self.invariant))
 
 pub returns-clause-within : goal.returns-clause-within
 returns-clause-within g c = rw (← c.self.view_is)

@@ -8,8 +8,8 @@ new-objects-requires g c =
 
 pub returns-clause-rising : goal.returns-clause-rising
 returns-clause-rising g c = rw (c.new-objects.ensures, c.iter.ensures.rest) (keys_rise
-    c.self.inside.sessions (ordered-store g.row.SESSIONS g.row.OBJECTS _ c.self.invariant))
+    c.self.inside.sessions (ordered-store _ g.row.OBJECTS _ c.self.invariant))
 
 pub returns-clause-held : goal.returns-clause-held
 returns-clause-held g c = rw (c.new-objects.ensures, c.iter.ensures.rest, ← c.self.view_is)
-    (keys_held g.row.SESSIONS g.row.OBJECTS c.self.inside.sessions c.self.invariant)
+    (keys_held g.row.SESSIONS g.row.OBJECTS _ c.self.invariant)

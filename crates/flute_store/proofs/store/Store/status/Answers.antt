@@ -29,9 +29,9 @@ loop-gap-preserved g c =
     let f = first-gap _ _ _ _ _ c.in-Some-next.ensures.steps c.loop-gap.invariant.0
     c.loop-gap.invariant.1 in (
       f.runs_are,
-      counts-more c.in-Some-next.gap c.loop-gap.wanted
-          c.add.new.self (flat_map listed c.new-gaps.result.gaps) (flat_map listed c.next.new.self.gaps)
-          f.counted c.add.ensures,
+      counts-more c.in-Some-next.gap c.loop-gap.wanted _
+          (flat_map listed c.new-gaps.result.gaps) (flat_map listed c.next.new.self.gaps) f.counted
+          c.add.ensures,
     )
 
 pub returns : goal.returns

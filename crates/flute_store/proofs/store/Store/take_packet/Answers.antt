@@ -20,11 +20,11 @@ returns-in_default-clause-full g c = rw (← c.self.view_is) (
 pub returns-in-Ok-clause-full : goal.returns-in-Ok-clause-full
 returns-in-Ok-clause-full g c =
     let update = ap (λ key. update_facts key c.in-Some.update) c.key-key.ensures ∙
-    c.in-Some.ensures.facts c.args.sender in rw (← update) (not_full _ _ _ _ _ c.in-Ok.ensures.full)
+    c.in-Some.ensures.facts _ in rw (← update) (not_full _ _ _ _ _ c.in-Ok.ensures.full)
 
 pub returns-in-Err-clause-full : goal.returns-in-Err-clause-full
 returns-in-Err-clause-full g c =
     let update = ap (λ key. update_facts key c.in-Some.update) c.key-key.ensures
-    ∙ c.in-Some.ensures.facts c.args.sender in
+    ∙ c.in-Some.ensures.facts _ in
     let full = c.in-Err.ensures.full in
     rw (← update) ((λ e. full.0 cc), (λ over. let e = full.1 over in cc))
