@@ -51,7 +51,13 @@ bytes-here = search (rules, value-here, bytes-past)
 pass-bytes : (w : Walk) → IsWalk w → AtPassed w → bytes_left (after_pass w) ≡ bytes_left w
 unfolding bytes_left
 pass-bytes w p t =
-    let l = inside-less w p t.inside in rw (t.held, symbols-first w l, bytes-past t.first _ (here w ∷ others_left w) (t.before, above-before _ (here w) _ t.before (others-above w p l)))
+    let l = inside-less w p t.inside in
+    rw (
+      t.held,
+      symbols-first w l,
+      bytes-past t.first _ (here w ∷ others_left w)
+          (t.before, above-before _ (here w) _ t.before (others-above w p l)),
+    )
 
 begin-bytes : (w : Walk) → IsWalk w → Tells w BlockEnd → bytes_left (after_begin w) ≡ bytes_left w
 unfolding bytes_left
@@ -111,7 +117,13 @@ pub gives-first : (u v w : HeldScan) {e : Entry} {es : List Entry} (value : Opti
     (e.1 ≡ Conflict) (λ bytes. (e.1 ≡ One bytes.now) × HasSymbolSize bytes.now) → GivesBytes u value
     w
 gives-first u v w {e} {es} None k h s m =
-    let t = told (walk_in v) Fitting s.turns.1 in let f : t.first ≡ e = let held = sym t.held ∙ h in cc in let at = here (walk_in v) in let why = ap (λ (x : Entry). want_cell v.walk.partition at (Some x.1)) f ∙ ap (λ c. want_cell v.walk.partition at (Some c)) m in absurd cc
+    let t = told (walk_in v) Fitting s.turns.1 in
+    let f : t.first ≡ e =
+    let held = sym t.held ∙ h in
+    cc in
+    let at = here (walk_in v) in
+    let why = ap (λ (x : Entry). want_cell v.walk.partition at (Some x.1)) f ∙ ap
+    (λ c. want_cell v.walk.partition at (Some c)) m in absurd cc
 gives-first u v w {e} {es} (Some bytes) k h s m =
     let t = told (walk_in v) _ s.turns.1 in
     let f : t.first ≡ e = cc in
@@ -161,7 +173,8 @@ pub record Cuts (left x more : List ℕ) (n : ℕ) (b : List ℕ) : Type 0 where
 -- what comes after the first bytes that are written
 cut-left : (w : List ℕ) {all left x more b : List ℕ} {n : ℕ} → all ≡ w ++ take n left
     → Cuts left x more n b → all ≡ (w ++ b) ++ take (n - length b) more
-cut-left w {all} {left} {x} {more} {b} {n} h c = rw (h, c.left_is, take-both n x more, ← c.bytes_are, ← append_assoc w b (take _ more))
+cut-left w {all} {left} {x} {more} {b} {n} h c = rw
+    (h, c.left_is, take-both n x more, ← c.bytes_are, ← append_assoc w b (take _ more))
 
 -- the first bytes of what is left are written
 pub writing-more : {old now new : Option (List ℕ)} {all left x more b : List ℕ} {n : ℕ}
@@ -177,7 +190,8 @@ writing-more {old} {now} {new} {all} {left} {x} {more} {b} w c a = record {
 pub writing-fails : {old now : Option (List ℕ)} (new : Option (List ℕ)) {all left x more b : List ℕ}
     {n : ℕ} → IsWriting old now all (take n left) → Cuts left x more n b → AppendsPart now new b
     → AppendsPart old new all
-writing-fails {old} {now} new {all} {left} {x} {more} {b} {n} w c a = rw (cut-left w.part w.whole c) (AppendsPart-first _ new (w.part ++ b) _ (AppendsPart-second old now _ w.part b w.appended a))
+writing-fails {old} {now} new {all} {left} {x} {more} {b} {n} w c a = rw (cut-left w.part w.whole c)
+    (AppendsPart-first _ new (w.part ++ b) _ (AppendsPart-second old now _ w.part b w.appended a))
 
 -- ---- the whole object, from its held symbols
 
@@ -202,7 +216,11 @@ module _ {n : ℕ} {F : List Fact} {key : Key} {x : Object n} {info : Informatio
   information = search rules
 
   are_gaps : gaps F key info ≡ gs
-  are_gaps = rw (wants-told F key x info t.told ∙ ap (λ (s : List Entry). wanted info s (ids info)) (sym t.held_is), ← t.gaps_are)
+  are_gaps = rw (
+    wants-told F key x info t.told ∙ ap (λ (s : List Entry). wanted info s (ids info))
+        (sym t.held_is),
+    ← t.gaps_are,
+  )
 
   -- an object with a gap is not whole, and one without is
   pub not-whole : (gap : Gap) (others : List Gap) → gs ≡ gap ∷ others
@@ -215,7 +233,8 @@ module _ {n : ℕ} {F : List Fact} {key : Key} {x : Object n} {info : Informatio
   -- the bytes that a walk from the start gives are those of the object
   told-bytes : {walk : Walk} {length : ℕ} (again : List Entry) → again ≡ x.symbols → walk ≡ at_start
       info again → length ≡ info.transfer_length → take length (bytes_left walk) ≡ object F key info
-  told-bytes {walk} {length} again a start l = rw (l, ap bytes_left start ∙ bytes-start info again, a, ← object-told F _ x info t.told)
+  told-bytes {walk} {length} again a start l = rw
+      (l, ap bytes_left start ∙ bytes-start info again, a, ← object-told F _ x info t.told)
 
   -- what is written by it: the whole object, or a prefix of it
   module _ {W : Type 0} {written : W → Option (List ℕ)} {old new : W} {walk : Walk}

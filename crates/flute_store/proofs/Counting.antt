@@ -84,7 +84,7 @@ module _ {n : ℕ} where
       → fact_at (object_facts key x) (symbol_address key id)
       ≡ option_map_or (λ c. fact_at (symbol_cell_facts key id c) (symbol_address key id))
       (value_at symbol_id_cmp x.symbols id) None
-  at-object = search (rules, object-symbol, at-entries, symbol_keys, symbols_apart) steps 300000
+  at-object = search (rules, object-symbol, at-entries, symbol_keys, symbols_apart)
 
   -- the content has no value at an address of a session that is not held; at an address of a held
   -- object it has the object's value
@@ -99,8 +99,14 @@ module _ {n : ℕ} where
           found → fact_at (content m) (record { key = key; part = part }) ≡ option_map_or
           (λ x. fact_at (object_facts key x) (record { key = key; part = part })) found None
       at-found part found h =
-          let a : Address = record { key = key; part = part } in
-          rw (at-content m a q, f, at-session os a (each-value_at session_cmp OrderedSession m key.session os q.each f), h)
+          let a : Address = search rules in
+          rw (
+            at-content m a q,
+            f,
+            at-session os a
+                (each-value_at session_cmp OrderedSession m key.session os q.each f),
+            h,
+          )
 
       module _ {x : Object n} (h : value_at object_cmp os key.object ≡ Some x) where
         pub at-info : fact_at (content m) (info_address key)
@@ -110,8 +116,12 @@ module _ {n : ℕ} where
         pub at-symbol : (id : SymbolId) (found : Option (Cell (List ℕ))) → value_at symbol_id_cmp
             x.symbols id ≡ found → fact_at (content m) (symbol_address key id) ≡ option_map_or
             (λ c. fact_at (symbol_cell_facts key id c) (symbol_address key id)) found None
-        at-symbol id found g =
-            at-found _ _ h ∙ at-object x _ _ (each-value_at object_cmp OrderedObject os key.object x (each-value_at session_cmp OrderedSession m key.session _ q.each f).each h) ∙ ap (λ z. option_map_or (λ c. fact_at (symbol_cell_facts key id c) (symbol_address key id)) z None) g
+        at-symbol id found g = at-found _ _ h ∙ at-object x _ _ (each-value_at object_cmp
+            OrderedObject os key.object x
+            (each-value_at session_cmp OrderedSession m key.session _ q.each f).each h) ∙ ap (λ z.
+            option_map_or (λ c. fact_at (symbol_cell_facts key id c) (symbol_address key id)) z
+            None)
+            g
 
         -- no more symbols are named than are held
         pub symbols-held : length (symbols (content m) key) ≤ length x.symbols
@@ -143,19 +153,21 @@ module _ {n : ℕ} where
     few_objects_of : (session : Session) (found : Option (Objects n))
         → value_at session_cmp m session ≡ found → length (objects (content m) session) ≤ o
     unfolding objects
-    few_objects_of session None f =
-        let c = none-named same_object object_tells (object_of session) (content m)
-        (λ x a e. at-unheard q a (ap (value_at session_cmp m) (object_of-some session a x e).0 ∙ f))
-        in omega (arith, c)
+    few_objects_of session None f = omega (
+      arith,
+      none-named same_object object_tells
+          (object_of session) (content m)
+          (λ x a e. at-unheard q a (ap (value_at session_cmp m) (object_of-some session a x e).0 ∙
+          f)),
+    )
     few_objects_of session (Some os) f =
-        let sound = each-value_at session_cmp (IsSession o) m session os p.each f in
         let c = count-Below same_object object_tells (object_of session) (content m) (keys_of os) (λ
         x a k e. let r = object_of-some session a x e in
-        let found = some-value (value_at object_cmp os a.key.object)
+        let found = some-value _
         (λ z. k (at-found q a.key (ap (value_at session_cmp m) r.0 ∙ f) a.part None z)) in
-        value_at-has object_cmp object_tells os x found.0
-        (subst (λ z. value_at object_cmp os z ≡ Some found.0) r.1 found.1)) in omega
-        (arith, c, length-keys_of os)
+        value_at-has object_cmp object_tells os x found.0 (subst (λ z. value_at object_cmp os z ≡ Some found.0) r.1 found.1)) in
+        let sound = each-value_at session_cmp (IsSession o) m session os p.each f in
+        omega (arith, c, length-keys_of os)
 
     few_in : (key : Key) (os : Objects n) → value_at session_cmp m key.session ≡
         Some os → IsSession o os → (found : Option (Object n)) → value_at object_cmp os key.object ≡
@@ -165,8 +177,11 @@ module _ {n : ℕ} where
         let c = none-named same_symbol_id symbol_id_tells (symbol_of _) (content m) (λ x a e. ap
         (fact_at (content m)) (named_symbol key a x e) ∙ at-found q key f (SymbolPart x) None h) in
         omega (arith, c)
-    few_in key os f sound (Some v) h =
-        omega (arith, symbols-held q key f h, (each-value_at object_cmp IsObject os key.object v sound.each h).symbols_are.within)
+    few_in key os f sound (Some v) h = omega (
+      arith,
+      symbols-held q key f h,
+      (each-value_at object_cmp IsObject os key.object v sound.each h).symbols_are.within,
+    )
 
     -- no object names more symbols than the limit
     few_symbols_of : (key : Key) (found : Option (Objects n))
@@ -180,7 +195,7 @@ module _ {n : ℕ} where
         (each-value_at session_cmp _ m key.session _ p.each f) _ refl
 
     pub not_over : Over (content m) s o n → ⊥
-    not_over = search (rules, few_sessions, few_objects_of, value_at, few_symbols_of) steps 300000
+    not_over = search (rules, few_sessions, few_objects_of, value_at, few_symbols_of)
 
     -- nor does it with an empty list appended
     pub not_over_more : (G : List Fact) → G ≡ [] → Over (content m ++ G) s o n → ⊥

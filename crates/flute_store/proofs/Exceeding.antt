@@ -1,8 +1,8 @@
 -- A store beyond the limits names more sessions, objects or symbols than they allow (specs/Beyond).
 use Rattle.flute_store.proofs.Maps.{Entry, Objects, Sessions}
 use Rattle.std.proofs.Common.{rules}
-use Rattle.std.proofs.Common.{◌≡◌, ◌≢◌, ℕ, ◌<◌, ◌≤◌, List, [], ◌∷◌, ◌++◌, length, true, false, cond}
-use Rattle.std.proofs.Common.{Option, Some, None, refl, sym, ap, ◌∙◌, subst, inl, inr, ◌⊎◌}
+use Rattle.std.proofs.Common.{◌≡◌, ◌≢◌, ℕ, ◌<◌, ◌≤◌, List, [], ◌∷◌, ◌++◌, length, true, false}
+use Rattle.std.proofs.Common.{Option, Some, None, refl, sym, ◌∙◌, subst, inl, inr, ◌⊎◌}
 use Rattle.std.proofs.Common.{arith}
 use Rattle.flute_store.proofs.FactEntries.{AreMaps, at-one_here}
 use Rattle.flute_store.proofs.OnePair.{symbols_joined, objects_joined, any-value_at}
@@ -14,11 +14,11 @@ use Rattle.flute_store.proofs.Common
 use Common.{Ordering, Less, is_eq, IsTotalOrder, keys_of, IsStrictlySortedBy, IsKnown}
 use Common.{map_join, join_values, value_at, IsOrdered, EachValue, MapOver, ordered-map_join}
 use Common.{EachValue-map_join, Cell, Absent, Session, ObjectName, Key, SymbolId}
-use Common.{session_cmp, object_cmp, symbol_id_cmp, same_symbol_id, same_session, same_object}
+use Common.{session_cmp, object_cmp, symbol_id_cmp}
 use Common.{info_address, symbol_address, session_total, object_total, symbol_id_total, fact_at}
-use Common.{same_information, key_itself, session_itself, Over, more_sessions, more_objects}
+use Common.{same_information, key_itself, session_itself, Over, more_objects}
 use Common.{more_symbols, session_of, object_of, symbol_of, sessions, objects, symbols, Information}
-use Common.{Part, InfoPart, SymbolPart, cases_Bool}
+use Common.{Part, InfoPart, cases_Bool}
 use Common.{false≢true, Tells, has, Distinct, session_tells, object_tells, symbol_id_tells}
 use Common.{AllByRecursion, length-keys_of, sorted_tail, none-some, each-value_at}
 use Common.{value_at-map_join, absent_past, Object, Update, SymbolUpdate, object_join, ObjectOver}
@@ -157,11 +157,8 @@ module _ {n : ℕ} {m : Sessions n} (p : SolidStore m) where
       first_stands [] e h = absurd (h refl)
       first_stands (d ∷ es) e h =
           let found = subst (λ l. value_at symbol_id_cmp l d.0 ≡ Some d.1) e
-          (first_value symbol_id_total symbol_id_tells d es) in (
-            SymbolPart d.0,
-            symbol_stands d.0
-                found (each-value_at symbol_id_cmp IsKnown x.symbols d.0 d.1 r.each found),
-          )
+          (first_value symbol_id_total symbol_id_tells d es) in
+          (_, symbol_stands d.0 found (each-value_at symbol_id_cmp _ _ d.0 d.1 r.each found))
 
       pub object_stands : (part : Part) ×
           (fact_at (content m) (record { key = key_in s o; part = part }) ≢ None)
@@ -174,42 +171,55 @@ module _ {n : ℕ} {m : Sessions n} (p : SolidStore m) where
       unfolding symbols
       symbols_named =
           let key = key_in s o in
-          let c = count-ge same_symbol_id symbol_id_tells (symbol_of _) (content m) (keys_of _)
-          (distinct _ symbol_id_tells _ r.ordered) (λ id k. let found = has-value_at symbol_id_total symbol_id_tells x.symbols id k in (symbol_address key id, symbol_stands id found.1 (each-value_at symbol_id_cmp IsKnown x.symbols id found.0 r.each found.1), ap (λ b. cond b (Some id) None) (key_itself key))) in omega (arith, c, length-keys_of x.symbols)
+          let c = count-ge _ symbol_id_tells (symbol_of key) (content m) (keys_of x.symbols)
+          (distinct _ symbol_id_tells _ r.ordered) (λ id k. let found = has-value_at symbol_id_total
+          symbol_id_tells x.symbols id k in (
+            _,
+            symbol_stands id found.1
+                (each-value_at symbol_id_cmp _ _ id found.0 r.each found.1),
+            rw (key_itself key),
+          )) in
+          omega (arith, c, length-keys_of x.symbols)
 
     -- a session with an object has an address with a value
     pub first_object : (es : Objects n) → es ≡ os → es ≢ [] → (key : Key) × (part : Part) ×
         (key.session ≡ s) × (fact_at (content m) (record { key = key; part = part }) ≢ None)
     first_object [] e h = absurd (h refl)
     first_object (d ∷ es) e h =
-        let stands = object_stands _ (subst (λ l. value_at object_cmp l d.0 ≡ Some d.1) e
-        (first_value object_total object_tells d es)) in (key_in s _, stands.0, refl, stands.1)
+        let stands = object_stands d.0 (subst (λ l. value_at object_cmp l d.0 ≡ Some d.1) e
+        (first_value object_total object_tells d es)) in (_, stands.0, refl, stands.1)
 
     -- there are at least as many object names as held objects
     objects_named : length os ≤ length (objects (content m) s)
     unfolding objects
     objects_named =
-        let c = count-ge same_object object_tells (object_of s) (content m) (keys_of _)
-        (distinct _ object_tells _ q.ordered) (λ k h. let stands = object_stands k (has-value_at object_total object_tells os k h).1 in (record { key = key_in s k; part = stands.0 }, stands.1, ap (λ b. cond b (Some k) None) (session_itself s))) in omega (arith, c, length-keys_of os)
+        let c = count-ge _ object_tells (object_of s) (content m) (keys_of os)
+        (distinct _ object_tells _ q.ordered) (λ k h. let stands = object_stands k
+        (has-value_at object_total object_tells os k h).1 in (_, stands.1, rw (session_itself s)))
+        in omega (arith, c, length-keys_of os)
 
   -- and at least as many session names as held sessions
   sessions_named : length m ≤ length (sessions (content m))
   unfolding sessions
   sessions_named =
-      let c = count-ge same_session session_tells session_of (content m) (keys_of m)
-      (distinct session_cmp session_tells (keys_of m) p.ordered) (λ k h. let found = has-value_at session_total session_tells m k h in let stands = first_object k found.1 found.0 refl (each-value_at session_cmp SolidSession m k found.0 p.each found.1).some in (record { key = stands.0; part = stands.1 }, stands.3, ap Some stands.2)) in omega
-      (arith, c, length-keys_of m)
+      let c = count-ge _ session_tells session_of (content m) (keys_of m)
+      (distinct _ session_tells _ p.ordered) (λ k h. let found = has-value_at session_total
+      session_tells m k h in
+      let stands = first_object k found.1 found.0 refl (q k found.1).some in
+      (_, stands.3, rw stands.2)) in omega (arith, c, length-keys_of m)
 
   -- a session beyond the limits of objects or symbols: its facts are over them
   in_object : (s o : ℕ) (session : Session) (os : Objects n)
       → value_at session_cmp m session ≡ Some os → SessionBeyond o os → Over (content m) s o n
   in_object s o session os f (inl l) =
-      (more_objects session (omega (arith, objects_named session f, l)))
+      more_objects session (omega (arith, objects_named session f, l))
   in_object s o session os f (inr a) =
-      let found = any-value object_total object_tells ObjectBeyond os (each-value_at session_cmp SolidSession m session os p.each f).ordered a in more_symbols (key_in session found.0) (omega (arith, symbols_named session f found.0 found.2, found.3))
+      let found = any-value object_total object_tells ObjectBeyond os (q session f).ordered a in
+      more_symbols (key_in session found.0)
+      (omega (arith, symbols_named session f found.0 found.2, found.3))
 
   pub beyond-over_at : (s o : ℕ) → StoreBeyond s o m → Over (content m) s o n
-  beyond-over_at s o (inl l) = (more_sessions (omega (arith, sessions_named, l)))
+  beyond-over_at s o (inl l) = search (rules, sessions_named)
   beyond-over_at s o (inr a) =
       let found = any-value session_total session_tells (SessionBeyond o) m p.ordered a in
       in_object s o found.0 found.1 found.2 found.3
@@ -234,15 +244,12 @@ module _ {n : ℕ} where
 
   session_over : (o : ℕ) (v w : Objects n) → SolidSession v → SolidSession w
       → MapOver object_cmp object_join o ObjectOver v w → SessionBeyond o (session_join v w)
-  session_over o v w p q h = map_over-beyond object_total _ o _ _ object_over
-      (record { first = p.ordered; second = q.ordered; first_each = p.each; second_each = q.each })
-      h
+  session_over o v w p q h = map_over-beyond object_total _ o _ _ object_over (search rules) h
 
   pub over-beyond : (s o : ℕ) (v w : Sessions n) → SolidStore v →
       SolidStore w → MapOver session_cmp session_join s
       (MapOver object_cmp object_join o ObjectOver) v w → StoreBeyond s o (store_join v w)
-  over-beyond s o v w p q h = map_over-beyond session_total _ s _ _ (session_over o)
-      (record { first = p.ordered; second = q.ordered; first_each = p.each; second_each = q.each })
+  over-beyond s o v w p q h = map_over-beyond session_total _ s _ _ (session_over o) (search rules)
       h
 
   -- a join beyond the limits is of facts over them

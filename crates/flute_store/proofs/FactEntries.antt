@@ -1,10 +1,10 @@
 -- The value of facts at an address, and the facts of the entries of a map.
 use Rattle.std.proofs.Common.{rules}
 use Rattle.std.proofs.Common.{◌≡◌, List, [], ◌∷◌, ◌++◌, Bool, true, false, cond, Some, None, refl}
-use Rattle.std.proofs.Common.{sym, ap, ◌∙◌, subst, inl, inr}
+use Rattle.std.proofs.Common.{sym, ap, ◌∙◌, inl, inr}
 use Rattle.flute_join.proofs.Public.{reading_at}
 use Rattle.flute_store.proofs.Common
-use Common.{AllByRecursion, flat_map, Ordering, Equal, IsTotalOrder, Equal-is}
+use Common.{AllByRecursion, flat_map, Ordering, Equal, IsTotalOrder}
 use Common.{cases_Bool, Address, Fact, same_address, address, fact_at}
 use Common.{same_fact, conflict_at, joined, joined-none, joined_fact}
 use Common.{joined-conflict_left, joined-conflict_right, joined-itself, fact_at-append, fact_at-nil}
@@ -36,8 +36,8 @@ not_same a b n = search rules
 
 pub elsewhere-none : (a : Address) (F : List Fact) → Elsewhere a F → fact_at F a ≡ None
 elsewhere-none a [] h = fact_at-nil a
-elsewhere-none a (f ∷ F) h =
-    rw (fact_at-append (f ∷ []) F a, at-one_elsewhere f a (not_same _ a h.0)) (elsewhere-none a F h.1)
+elsewhere-none a (f ∷ F) h = rw
+    (fact_at-append (f ∷ []) F a, at-one_elsewhere f a (not_same _ a h.0)) (elsewhere-none a F h.1)
 
 pub each-append : {X : Type 0} (P : X → Type 0) (xs ys : List X) → AllByRecursion P xs
     → AllByRecursion P ys → AllByRecursion P (xs ++ ys)
@@ -71,8 +71,7 @@ module _ {T : Type 0} (told : T → Fact) (here : Address) where
     value v = rw (← (stands v)) (at-one_here (told v))
 
     conflict : fact_at (conflict_at here ∷ []) here ≡ Some (conflict_at here)
-    conflict = subst (λ a. fact_at (conflict_at here ∷ []) a ≡ Some (conflict_at here)) clash
-        (at-one_here _)
+    conflict = search (rules, at-one_here)
 
     two_values : (v w : T) (b : Bool) → eq v w ≡ b
         → fact_at (facts (cond b (One v) Conflict)) here ≡ Some (cond b (told v) (conflict_at here))
@@ -82,16 +81,12 @@ module _ {T : Type 0} (told : T → Fact) (here : Address) where
     pub at-cell_join : (c d : Cell T) → fact_at (facts (cell_join eq c d)) here ≡ joined here
         (fact_at (facts c) here) (fact_at (facts d) here)
     unfolding joined_fact
-    at-cell_join Absent d = sym (ap (λ x. joined here x (fact_at (facts d) here)) (fact_at-nil _))
+    at-cell_join Absent d = search (rules, fact_at-nil)
     at-cell_join (One v) Absent = sym (ap (joined _ _) (fact_at-nil _) ∙ joined-none _ _)
-    at-cell_join (One v) (One w) = two_values v w _ refl ∙ ap
-        (λ b. Some (cond b (told v) (conflict_at here))) (sym (decides v w)) ∙ sym
-        (λ i. joined here (value v i) (value w i))
-    at-cell_join (One v) Conflict = conflict ∙ sym ((λ i. joined here (value v i) (conflict i)) ∙ ap
-        Some (joined-conflict_right _ (told v)))
+    at-cell_join (One v) (One w) = search (rules, two_values, value)
+    at-cell_join (One v) Conflict = search (rules, conflict, value, joined-conflict_right)
     at-cell_join Conflict Absent = sym (ap (joined _ _) (fact_at-nil _) ∙ joined-none _ _)
-    at-cell_join Conflict (One w) = conflict ∙ sym
-        ((λ i. joined here (conflict i) (value w i)) ∙ ap Some (joined-conflict_left _ (told w)))
+    at-cell_join Conflict (One w) = search (rules, conflict, value, joined-conflict_left)
     at-cell_join Conflict Conflict = sym (joined-itself _ _)
 
 -- ---- the entries of a map: the value of their facts at an address
@@ -130,8 +125,8 @@ module _ {K X : Type 0} {cmp : K → K → Ordering} (keys : AreKeys cmp) (f : K
       let more = at-entries es (sorted_tail _ _ _ s) in
       let both = fact_at-append (f e) (flat_map f es) a in
       elim (cases_Bool (is_at (cmp q) e.0)) [
-        | inl t ↦ rw (t, both, rw (absent_past keys.order e es q s t) at more, joined-none a (fact_at (f e) a)) (ap (λ k. fact_at (f (k, e.1)) a) (sym (keys.same q e.0 ((Equal-is (cmp q e.0)).0 t))))
-        | inr t ↦ rw (t, both, elsewhere-none a (f e) (apart e (not_at e t))) more
+        | inl t ↦ search (rules, absent_past, joined-none)
+        | inr t ↦ search (rules, elsewhere-none, not_at)
       ]
 
   module _ (join : X → X → X) {P : X → Type 0}
@@ -140,7 +135,7 @@ module _ {K X : Type 0} {cmp : K → K → Ordering} (keys : AreKeys cmp) (f : K
     pub at-map_join : {es fs : List (K × X)} → AreMaps cmp P es fs
         → fact_at (flat_map f (map_join cmp join es fs)) a
         ≡ joined a (fact_at (flat_map f es) a) (fact_at (flat_map f fs) a)
-    at-map_join {es} {fs} m = at-entries _ (ordered-map_join keys.order _ _ _ m.first m.second) ∙
+    at-map_join {es} {fs} m = at-entries _ (search (rules, ordered-map_join)) ∙
         reading_at keys.order _ P (λ v. fact_at _ a) _ (joined a) (λ c. refl) (joined-none a) keeps
         _ _ q m.first m.second m.first_each m.second_each ∙ sym
         (λ i. joined a (at-entries es m.first i) (at-entries fs m.second i))

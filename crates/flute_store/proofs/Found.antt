@@ -1,4 +1,5 @@
 -- Whether an address has a value in a store's content, and what the content says of an object.
+use Rattle.std.proofs.Common.{rules}
 use Rattle.flute_store.proofs.Maps.{Objects, Sessions}
 use Rattle.std.proofs.Common.{◌≡◌, ◌≢◌, ℕ, List, [], ◌∷◌, ◌++◌, Bool, true, false, Option, Some}
 use Rattle.std.proofs.Common.{None, refl, ap, ◌∙◌, sym, arith}
@@ -77,8 +78,7 @@ module _ {n s o : ℕ} {m : Sessions n} (p : IsStore s o m) where
   pub object_held : (key : Key) → HoldsObject (content m) key → (os : Objects n) × (x : Object n) ×
       (value_at session_cmp m key.session ≡ Some os) × (value_at object_cmp os key.object ≡ Some x)
   object_held key (part, h) =
-      let session = some-value _
-      (λ z. h (at-unheard in_order (record { key = key; part = part }) z)) in
+      let session = some-value _ (search (rules, at-unheard, in_order)) in
       let object = some-value _ (λ z. h (at-found in_order _ session.1 part _ z)) in
       (session.0, object.0, session.1, object.1)
 
@@ -135,7 +135,7 @@ known-fact = grind arith
 module _ {n s o : ℕ} {m : Sessions n} (p : IsStore s o m)
     (key : Key) where
   pub unheard-session : value_at session_cmp m key.session ≡ None → IsUnheard (content m) key
-  unheard-session f part = at-unheard (ordered-store s o m p) (record { key = key; part = part }) f
+  unheard-session f part = search (rules, at-unheard, ordered-store)
 
   module _ {os : Objects n}
       (f : value_at session_cmp m key.session ≡ Some os) where
@@ -145,7 +145,18 @@ module _ {n s o : ℕ} {m : Sessions n} (p : IsStore s o m)
     pub told-object : {x : Object n} → value_at object_cmp os key.object ≡ Some x
         → IsTold (content m) key x
     told-object {x} h =
-        let q = ordered-store s o m p in let solid = solid-store s o m p in record { heard = object_stands solid key.session f key.object h; info = at-info q key f h ∙ info-cell key x.info; each = λ id. at-symbol q key f h id (value_at symbol_id_cmp x.symbols id) refl ∙ symbol-cell key id (value_at symbol_id_cmp x.symbols id); count = omega (arith, symbols-held q key f h, symbols_named solid key.session f key.object h); object = each-value_at object_cmp IsObject os key.object x (each-value_at session_cmp (IsSession o) m key.session os p.each f).each h }
+        let q = ordered-store s o m p in
+        let solid = solid-store s o m p in
+        record {
+          heard = object_stands solid key.session f key.object h;
+          info = at-info q key f h ∙ info-cell key x.info;
+          each = λ id. at-symbol q key f h id (value_at symbol_id_cmp x.symbols id) refl ∙
+              symbol-cell key id (value_at symbol_id_cmp x.symbols id);
+          count = omega
+              (arith, symbols-held q key f h, symbols_named solid key.session f key.object h);
+          object = each-value_at object_cmp IsObject os key.object x
+              (each-value_at session_cmp (IsSession o) m key.session os p.each f).each h;
+        }
 
     -- what a look-up finds
     pub found-object : (r : Option (Bor (Object n))) → option_copied r ≡ value_at object_cmp os

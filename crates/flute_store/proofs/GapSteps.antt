@@ -44,10 +44,16 @@ same_run g r h = grind (arith, reason_same g.reason r)
 run-more : (n i : ℕ) (r : Reason) (run : Option Gap) (ws : List (SymbolId × Reason))
     → EndsBefore n i run → ended_run run (Wanted r) ≡ None
     → pending (Some (run_with n i r run)) ++ ws ≡ pending run ++ (entry n r i ∷ ws)
-run-more n i r None ws e h =
-    let k : i + 1 - i ≡ 1 = omega arith in rw k
+run-more n i r None ws e h = search rules
 run-more n i r (Some g) ws e h =
-    let k : i + 1 - g.first ≡ g.last + 1 - g.first + 1 = omega arith in rw (k, map-range_with_len_more (entry g.sbn g.reason) g.first (g.last + 1 - g.first) i (omega arith), append_assoc) (λ x. pending (Some g) ++ (entry (e.0 x) (same_run g r h x) i ∷ ws))
+    let k : i + 1 - g.first ≡ g.last + 1 - g.first + 1 = omega arith in
+    rw (
+      k,
+      map-range_with_len_more (entry g.sbn g.reason) g.first (g.last + 1 - g.first) i
+          (omega arith),
+      append_assoc,
+    )
+    (λ x. pending (Some g) ++ (entry (e.0 x) (same_run g r h x) i ∷ ws))
 
 pub run-ends : (n i : ℕ) (r : Reason) (run : Option Gap) → EndsBefore n i run → ended_run run
     (Wanted r) ≡ None → r ≢ Missing → EndsBefore n (i + 1) (Some (run_with n i r run))
@@ -90,7 +96,8 @@ module _ (w : Walk) (r : Reason) (p : IsWalk w) (h : 0 < w.esi) (d : r ≢ Missi
   unfolding left
   at_not_held t =
       let l = inside-less w p t.0 in
-      rw (symbols-first w l) (elsewhere-here w.partition _ (here w) r (others_left w) (λ e. d (sym (same_Some Missing r (sym (ap (want_cell _ (here w)) (value-before w.held _ (first-above (here w) _ p.ordered t.1))) ∙ e)))) (others-above w p l))
+      rw (symbols-first w l) (elsewhere-here w.partition _ (here w) r (others_left w)
+      (λ e. d (search (rules, same_Some, value-before, first-above))) (others-above w p l))
 
   pub stop-elsewhere : (l : Upcoming) → upcoming_of w ≡ l → EndsRun r l
       → Elsewhere (here w) r (left w)
@@ -106,8 +113,10 @@ module _ (w : Walk) (r : Reason) (p : IsWalk w) (h : 0 < w.esi) (d : r ≢ Missi
 -- a wanted symbol is put to the run
 pub step-want : (w : Walk) (r : Reason) → IsWalk w → AtHere w (Some r)
     → ended_run w.run (Wanted r) ≡ None → Keeps w (after_want r w)
-step-want w r p t h =
-    taken-keeps _ w _ p t (run-ends _ _ r _ p.running h (here-known w r p t)) (run-more _ _ r _ _ p.running h ∙ ap (λ ws. pending w.run ++ ws) (sym (taken-left (Some (run_with w.sbn _ r w.run)) w _ p t)))
+step-want w r p t h = taken-keeps _ w _ p t (run-ends _ _ r _ p.running h (here-known w r p t))
+    (run-more
+    _ _ r _ _ p.running h ∙ ap (λ ws. pending w.run ++ ws)
+    (sym (taken-left (Some (run_with w.sbn _ r w.run)) w _ p t)))
 
 -- the run that ends is given
 ends-upcoming : (g : Gap) (l : Upcoming) → ended_run (Some g) l ≡ Some g → EndsRun g.reason l
@@ -122,28 +131,16 @@ gap-run w g p e h =
     let y : w.esi ≡ g.last + 1 = omega arith in
     let k : g.last + 1 - 1 ≡ g.last = omega arith in
     let j : w.esi - 1 ≡ g.last = omega arith in
-    let f : here w ≡ symbol_id g.sbn (g.last + 1) = λ i. symbol_id (sym q.0 i) (y i) in
-    let x = stop-elsewhere w _ p z q.3 _ refl
-    (ends-upcoming g _ (ap (λ o. ended_run o (upcoming_of w)) (sym e) ∙ h)) in record {
-      walk = record {
-        ordered = p.ordered;
-        known = p.known;
-        begun = p.begun;
-        within = p.within;
-        longest = p.longest;
-        in_block = p.in_block;
-        behind = p.behind;
-        running = tt;
-      };
+    let f : here w ≡ symbol_id g.sbn (g.last + 1) = search rules in
+    let x = stop-elsewhere w _ p z q.3 _ refl (search (rules, ends-upcoming)) in
+    record {
+      walk = search rules;
       first = ap (λ o. runs (pending o ++ left w)) e ∙ runs-first _ _ _ _ _ (omega arith)
           (rw (← f) x) ∙ (λ i. record g { last = k i } ∷ runs (left w));
       held_is = refl;
       begun_is = refl;
       partition_is = refl;
-      passes = record {
-        begun = rw (← p.in_block (omega (arith, p.within)), ← q.0);
-        behind = rw q.0 (subst (λ i. IsBehind w.sbn i w.held) j (p.behind z));
-      };
+      passes = record { begun = search rules; behind = search rules };
     }
 
 -- ---- symbols that are not held
@@ -212,11 +209,16 @@ missing-elsewhere : (w : Walk) → IsWalk w → 0 < w.size → ((until_of w ≡ 
     (left (after_missing w))
 unfolding left
 missing-elsewhere w p l (inl e) =
-    let q = symbol_id _ _ in rw (symbols-end (after_missing w) e) (elsewhere-above _ _ q _ _ (above-later q _ (blocks-later w p l)))
+    let q = symbol_id _ _ in
+    rw (symbols-end (after_missing w) e)
+    (elsewhere-above _ _ q _ _ (above-later q _ (blocks-later w p l)))
 missing-elsewhere w p l (inr n) =
     let q = symbol_id _ _ in
     let e = n.1 in
-    rw (symbols-first (after_missing w) n.0) (elsewhere-here w.partition _ q Missing (others_left (after_missing w)) (λ z. known-not_missing w.partition q e.1 (first-known w.held e n.2 n.3 p.known) (sym (ap (want_cell _ q) (ap (λ (x : List Entry). value_at symbol_id_cmp x q) n.3 ∙ value-here e _ q n.4)) ∙ z)) (above-block _ (until_of w) w.size _ (blocks-later w p l)))
+    rw (symbols-first (after_missing w) n.0) (elsewhere-here w.partition _ q Missing
+    (others_left (after_missing w)) (λ z. known-not_missing w.partition q e.1
+    (first-known w.held e n.2 n.3 p.known) (search (rules, value_at, value-here)))
+    (above-block _ (until_of w) w.size _ (blocks-later w p l)))
 
 missing-left : (w : Walk) → Until w.sbn w.esi w.size (until_of w) w.held
     → left w ≡ map (λ i. (symbol_id w.sbn i, Missing)) (range_with_len w.esi (until_of w - w.esi))
@@ -244,7 +246,7 @@ gap-missing w p r e =
       held_is = refl;
       begun_is = refl;
       partition_is = refl;
-      passes = record { begun = sym (p.in_block (omega arith)); behind = behind };
+      passes = record { begun = search rules; behind = behind };
       first = ap (λ o. runs (pending o ++ left w)) r ∙ ap runs (missing-left w u) ∙ runs-first _ _ _
           _ _ u.less (missing-elsewhere w p (omega arith) u.next) ∙ ap
           (λ o. missing_gap_of w ∷ runs (pending o ++ left (after_missing w))) (sym r);

@@ -3,15 +3,14 @@ use Rattle.flute_store.proofs.Maps.{Entry}
 use Rattle.std.proofs.Common.{rules}
 use Rattle.std.proofs.Common.{◌≡◌, ℕ, zero, suc, ◌+◌, ◌-◌, ◌<◌, ◌≤◌, ◌^◌, Bool, true, false, List}
 use Rattle.std.proofs.Common.{[], ◌∷◌, ◌++◌, length, map, Some, refl, sym, ap, ◌∙◌, subst, arith}
-use Rattle.std.proofs.Common.{inl, inr}
 use Rattle.std.proofs.lemmas.List.{Elements.{filter-append}, nil_from_length, length-append}
 use Rattle.std.{proofs.lemmas.List.FromFn.{length-map-range_with_len}, specs.Prelude.{◌&&◌}}
 use Rattle.flute_store.{specs.declared.status.Wanted.{Wanted}, proofs.Runs.{runs-listed}}
 use Rattle.flute_store.proofs.WholeObjects.{gapless-whole}
 use Rattle.flute_store.proofs.ToldObjects.{ToldGaps, wants-told, told-information}
 use Rattle.flute_store.proofs.Common
-use Common.{◌==◌, flat_map, range_with_len, cases_Bool, eqb-true, false≢true, Information}
-use Common.{both, fact_at, info_address, Info, symbol_id, ids, Key, SymbolId, Fact, Reason, Missing}
+use Common.{◌==◌, flat_map, range_with_len, cases_Bool, Information}
+use Common.{fact_at, info_address, Info, symbol_id, ids, Key, SymbolId, Fact, Reason, Missing}
 use Common.{Conflicting, Misfit, Gap, Object, Whole, wants, runs, listed, same_reason, AreRuns}
 use Common.{wanted, how_many, IsCount, Adds, IsPartial, status_of, TellsStatus}
 
@@ -57,7 +56,7 @@ pub how-listed : (r : Reason) (g : Gap)
 how-listed r g = how-range r _ _ refl _ _ _
 
 pub listed-length : (g : Gap) → length (listed g) ≡ g.last + 1 - g.first
-listed-length g = length-map-range_with_len (λ i. (symbol_id _ i, g.reason)) _ _
+listed-length g = search (rules, length-map-range_with_len)
 
 pub adds-reason : (g : Gap) (old new : Wanted) (r : Reason) → g.reason ≡ r
     → new.missing ≡ old.missing + times (same_reason Missing r) (g.last + 1 - g.first)
@@ -86,11 +85,7 @@ counts-none = omega (arith, how-nil)
 
 pub none-counted : (count : Wanted) → count.missing ≡ 0 → count.conflicting ≡ 0 → count.misfit ≡ 0
     → IsCount count []
-none-counted count m c f = record {
-  missing = m ∙ sym (how-nil _);
-  conflicting = c ∙ sym (how-nil _);
-  misfit = f ∙ sym (how-nil _);
-}
+none-counted count m c f = search (rules, how-nil)
 
 pub counts-all : (count : Wanted) (all : List Want) → Counts count all [] → IsCount count all
 unfolding how_many
@@ -137,13 +132,7 @@ module _ (F : List Fact) (key : Key) (info : Information) (count : Wanted)
   }
 
   pub tells-status : (n : ℕ) → n ≡ info.transfer_length → TellsStatus F key (status_of count n)
-  tells-status n l = elim (cases_Bool _) [
-    | inl t ↦
-        let p = both (count.missing == 0) ((count.conflicting == 0) && (count.misfit == 0)) t in
-        let q = both _ (count.misfit == 0) p.1 in
-        rw t (info, is-whole (eqb-true _ 0 p.0) (eqb-true _ 0 q.0) (eqb-true _ 0 q.1), l)
-    | inr t ↦ rw t (is-partial (λ a b d. false≢true (sym t ∙ rw (a, b, d))))
-  ]
+  tells-status n l = search (rules, cases_Bool, is-whole, is-partial)
 
 -- the wanted symbols of all gaps were counted
 pub store-status : {n : ℕ} {F : List Fact} {key : Key} {x : Object n} {info : Information}
@@ -151,7 +140,9 @@ pub store-status : {n : ℕ} {F : List Fact} {key : Key} {x : Object n} {info : 
     → (count : Wanted) → IsCount count (flat_map listed gs) → (length : ℕ)
     → length ≡ info.transfer_length → TellsStatus F key (status_of count length)
 store-status {n} {F} {key} {x} {info} {held} {gs} t count c =
-    let all = ap (flat_map _) t.gaps_are ∙ runs-listed _ ∙ ap (λ s. wanted info s (ids info)) t.held_is ∙ sym (wants-told F _ x _ t.told) in tells-status F _ _ _ (told-information F _ x _ t.told t.info_is) (subst (IsCount count) all c)
+    let all = ap (flat_map _) t.gaps_are ∙ runs-listed _ ∙ ap (λ s. wanted info s (ids info))
+    t.held_is ∙ sym (wants-told F _ x _ t.told) in tells-status F _ _ _
+    (told-information F _ x _ t.told t.info_is) (subst (IsCount count) all c)
 
 -- ---- gap after gap
 

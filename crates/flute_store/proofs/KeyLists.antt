@@ -11,7 +11,7 @@ use Rattle.flute_store.proofs.StoreJoin.{OrderedSession, OrderedStore, ordered-s
 use Rattle.flute_store.proofs.Exceeding.{first_value, later_value, solid-store, object_stands}
 use Rattle.flute_store.proofs.Common
 use Common.{Contains, flat_map, Less, is_eq, Equal-is, keys_of, AllByRecursion, cases_Bool}
-use Common.{IsStrictlySortedBy, tied_itself, Contains-append_left, Contains-append_right, same_Some}
+use Common.{IsStrictlySortedBy, Contains-append_left, Contains-append_right, same_Some}
 use Common.{Contains-append_cases, sorted_tail, none-some, value_at, IsOrdered, EachValue, Session}
 use Common.{ObjectName, Key, session_cmp, object_cmp, key_cmp, session_total, object_total}
 use Common.{session_place, object_place, session_tells, object_tells, Object, key_in, content}
@@ -31,8 +31,7 @@ rise-append : (xs ys : List Key) → IsStrictlySortedBy key_cmp xs → IsStrictl
     → AllByRecursion (λ k. Before k ys) xs → IsStrictlySortedBy key_cmp (xs ++ ys)
 unfolding IsStrictlySortedBy
 rise-append [] ys p q b = q
-rise-append (x ∷ xs) ys p q b =
-    (each-append (λ y. key_cmp x y ≡ Less) xs ys p.0 b.0, rise-append xs _ p.1 q b.1)
+rise-append (x ∷ xs) ys p q b = (search (rules, each-append), rise-append xs _ p.1 q b.1)
 
 pub one_is : {X : Type 0} (y x : X) → Contains (y ∷ []) x → y ≡ x
 one_is = search rules
@@ -58,7 +57,7 @@ module _ {X : Type 0} where
   object_before : (s : Session) (o : ObjectName) (es : List (ObjectName × X)) → AllByRecursion
       (λ y. object_cmp o y ≡ Less) (keys_of es) → Before (key_in s o) (session_keys s es)
   object_before s o [] p = tt
-  object_before s o (e ∷ es) p = (rw (tied_itself session_total s, p.0), object_before s o es p.1)
+  object_before s o (e ∷ es) p = (search rules, object_before s o es p.1)
 
   session_rises : (s : Session) (es : List (ObjectName × X)) → IsOrdered object_cmp es
       → IsStrictlySortedBy key_cmp (session_keys s es)
@@ -145,9 +144,11 @@ module _ {n : ℕ} where
       value_at object_cmp os o ≡ Some x → Contains (store_keys m) (key_in s o)
   store_has [] s o os x f h = absurd (none-some _ f)
   store_has (e ∷ m) s o os x f h = elim (cases_Bool _) [
-    | inl t ↦
-        let same = session_place s e.0 ((Equal-is (session_cmp s e.0)).0 t) in Contains-append_left (session_keys _ e.1) (store_keys m) _ (rw (same_Some _ os (rw t at f), ← same) (session_has s os o x h))
-    | inr t ↦ Contains-append_right (session_keys _ e.1) _ _ (store_has m s o _ x (rw t at f) h)
+    | inl t ↦ let same = session_place s e.0 ((Equal-is (session_cmp s e.0)).0 t) in
+        Contains-append_left (session_keys _ e.1) (store_keys m) _
+        (rw (same_Some _ os (rw t at f), ← same) (session_has s os o x h))
+    | inr t ↦ Contains-append_right (session_keys _ e.1) _ _
+        (store_has m s o _ x (rw t at f) h)
   ]
 
   -- they are those of the objects of which something is held

@@ -2,7 +2,7 @@
 use Rattle.flute_store.proofs.Maps.{Entry}
 use Rattle.std.proofs.Common.{rules}
 use Rattle.std.proofs.Common.{◌≡◌, ℕ, zero, suc, ◌+◌, ◌-◌, ◌<◌, get_or, List, [], ◌∷◌, ◌++◌, length}
-use Rattle.std.proofs.Common.{map, drop, refl, arith, Option, Some, None, sym, subst}
+use Rattle.std.proofs.Common.{map, drop, refl, arith, Option, Some, None}
 use Rattle.std.proofs.{Math.Nat.{sub-zero}, lemmas.List.{drop_more}, Math.Seq.{drop-length}}
 use Rattle.flute_store.proofs.Common
 use Common.{flat_map, range_with_len, enumerate_from, AllByRecursion, Less, nat_tests, Information}
@@ -107,8 +107,7 @@ pub wanted-here : (info : Information) (e : Entry) (es : List Entry) (q : Symbol
     (xs : List SymbolId) → e.0 ≡ q → Above q xs → wanted info (e ∷ es) (q ∷ xs) ≡ cons_option
     (option_map (with_reason q) (want_cell info q (Some e.1))) (wanted info es xs)
 unfolding wanted
-wanted-here info e es q xs h a =
-    rw (value-here e _ q h, wanted-past info e es _ (subst (λ z. Above z xs) (sym h) a))
+wanted-here info e es q xs h a = search (rules, value-here, wanted-past)
 
 -- symbols of which nothing is held are missing
 pub wanted-missing : (info : Information) (held : List Entry) (n a k : ℕ) (xs : List SymbolId)

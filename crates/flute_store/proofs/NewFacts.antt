@@ -1,4 +1,5 @@
 -- If a join may ask for memory, the other store has a fact at a new address (specs/Memory).
+use Rattle.std.proofs.Common.{rules}
 use Rattle.flute_store.proofs.Maps.{Objects, Sessions}
 use Rattle.flute_store.proofs.Exceeding.{SolidSession, SolidStore, SolidObject, ordered_store}
 use Rattle.flute_store.proofs.Exceeding.{symbol_stands, object_stands, first_object, info_stands}
@@ -16,8 +17,7 @@ use Common.{ObjectNeedsMemory}
 -- the second list has a fact at an address where the first has none
 from_address : (F G : List Fact) (a : Address) → fact_at G a ≢ None → fact_at F a ≡ None
     → HasNew F G
-from_address F G a h e =
-    let f = a_fact G a h in (f.0, Contains-from G _ f.1, rw (f.2, e))
+from_address F G a h e = search (rules, a_fact, Contains-from)
 
 has_value : {T : Type 0} (c : Cell T) → IsSome (one_value c) → IsKnown c
 has_value = grind arith
@@ -41,16 +41,19 @@ module _ {n : ℕ} {m w : Sessions n} (p : SolidStore m)
           d → (found : Option (Cell (List ℕ))) → value_at symbol_id_cmp x.symbols id ≡ found →
           ForSome found (λ c. CellNeedsMemory c d) → HasNew (content m) (content w)
       new_symbol id d b found a needs =
-          let known = each-value_at object_cmp SolidObject ws o y (each-value_at session_cmp SolidSession w s ws q.each g).each k in from_address _ _ (symbol_address _ _) (symbol_stands q s g o k _ b (each-value_at symbol_id_cmp IsKnown y.symbols id d known.each b)) (at-symbol (ordered_store p) _ f h _ _ a ∙ nothing _ needs)
+          let known = each-value_at object_cmp SolidObject ws o y
+          (each-value_at session_cmp SolidSession w s ws q.each g).each k in from_address _ _
+          (symbol_address _ _) (symbol_stands q s g o k _ b
+          (each-value_at symbol_id_cmp IsKnown y.symbols id d known.each b))
+          (at-symbol (ordered_store p) _ f h _ _ a ∙ nothing _ needs)
         where
           nothing : (found : Option (Cell (List ℕ))) → ForSome found (λ c. CellNeedsMemory c d)
               → option_map_or (λ c. fact_at (symbol_cell_facts (key_in s o) id c)
               (symbol_address (key_in s o) id)) found None ≡ None
           nothing None needs = refl
-          nothing (Some c) needs =
-              ap (λ c. fact_at (symbol_cell_facts (key_in s o) id c)
-              (symbol_address (key_in s o) id)) (needs c refl).0
-              ∙ fact_at-nil (symbol_address (key_in s o) id)
+          nothing (Some c) needs = ap
+              (λ c. fact_at (symbol_cell_facts (key_in s o) id c) (symbol_address (key_in s o) id))
+              (needs c refl).0 ∙ fact_at-nil (symbol_address (key_in s o) id)
 
       new_in_object : ObjectNeedsMemory x y → HasNew (content m) (content w)
       new_in_object (inl needs) = new_info needs
@@ -61,8 +64,7 @@ module _ {n : ℕ} {m w : Sessions n} (p : SolidStore m)
         (λ x. ObjectNeedsMemory x y) → HasNew (content m) (content w)
     new_object o k None h needs =
         let stands = object_stands q s g o k in
-        from_address _ _ (record { key = key_in s o; part = stands.0 }) stands.1
-        (at-found (ordered_store p) _ f _ _ h)
+        from_address _ _ (search rules) stands.1 (at-found (ordered_store p) _ f _ _ h)
     new_object o k (Some x) h needs = new_in_object o h k (needs x refl)
 
   new_session : (s : Session) {ws : Objects n} → value_at session_cmp w s ≡ Some ws →
@@ -70,13 +72,11 @@ module _ {n : ℕ} {m w : Sessions n} (p : SolidStore m)
       (λ os. MapNeedsMemory object_cmp ObjectNeedsMemory os ws) → HasNew (content m) (content w)
   new_session s {ws} g None f needs =
       let stands = first_object q s g ws refl
-      (each-value_at session_cmp SolidSession w s ws q.each g).some in
-      let a : Address = record { key = stands.0; part = stands.1 } in
-      from_address (content m) (content w) a stands.3
-      (at-unheard (ordered_store p) a (ap (value_at session_cmp m) stands.2 ∙ f))
+      (each-value_at session_cmp SolidSession w s ws q.each g).some in from_address _ _ _ stands.3
+      (at-unheard (ordered_store p) _ (ap (value_at session_cmp m) stands.2 ∙ f))
   new_session s g (Some os) f needs =
       let inner = needs os refl in
-      new_object s f g inner.0 inner.2 (value_at object_cmp os inner.0) refl inner.3
+      new_object s f g inner.0 inner.2 _ refl inner.3
 
   -- joining the second store asks for memory only if it holds something new
   pub needs-new : MapNeedsMemory session_cmp (MapNeedsMemory object_cmp ObjectNeedsMemory) m w

@@ -1,4 +1,5 @@
 -- A whole object has as many bytes as its transfer length (specs/Objects: Whole).
+use Rattle.std.proofs.Common.{rules}
 use Rattle.std.proofs.Common.{◌≡◌, ℕ, zero, suc, ◌+◌, ◌-◌, ◌*◌, ◌<◌, ◌≤◌, ◌&&◌, true, List, [], ◌∷◌}
 use Rattle.std.proofs.Common.{length, get_or, Some, refl, sym, ap, ◌∙◌, inl, inr, ◌⊎◌, arith}
 use Rattle.std.proofs.lemmas.{Grind.{div_ceil_times}, List.{length-append, length-take-le}}
@@ -20,10 +21,9 @@ length-each : (f : SymbolId → List ℕ) (e m : ℕ) (x : SymbolId) (xs : List 
 length-each f e m x [] l h = grind (arith, length-append (f x) [], h 0 x (omega arith) refl)
 length-each f e m x (y ∷ ys) l h =
     let a = length-append (f x) (flat_map f (y ∷ ys)) in
-    let more = length-each f e m y ys l (λ k z b g. elim (h (suc k) z (omega (arith, b)) g) [
-      | inl p ↦ inl p
-      | inr p ↦ inr (omega (arith, p.0), p.1)
-    ]) in grind (arith, a, more, h 0 x (omega arith) refl)
+    let more = length-each f e m y ys l
+    (λ k z b g. elim (h (suc k) z (omega (arith, b)) g) [ inl p ↦ inl p | inr p ↦ search rules ]) in
+    grind (arith, a, more, h 0 x (omega arith) refl)
 
 -- how long a symbol is that fits
 fits-length : (info : Information) (id : SymbolId) (n k : ℕ) → IsValid info → k < length (ids info)
@@ -36,8 +36,7 @@ fits-length info id n k v l g h =
     let told = sym (ap (λ p. fits_at info p n) at_k) ∙ h in
     elim (or_cases _ ((k + 1 == symbol_count info) && (n == last_length info)) told) [
       | inl p ↦ inl (eqb-true n _ p)
-      | inr p ↦ let q = both _ (n == last_length info) p in inr
-          (eqb-true _ _ q.0 ∙ sym count, eqb-true n _ q.1)
+      | inr p ↦ let q = both _ (n == last_length info) p in inr (search rules)
     ]
 
 symbol_bytes : List Fact → Key → SymbolId → List ℕ
@@ -56,8 +55,7 @@ each-symbol F key info v w k id l g =
 
 -- the last symbol is no longer than the others
 last-short : (info : Information) → 0 < info.symbol_length → last_length info ≤ info.symbol_length
-last-short info h =
-    shorter _ _ _ (div_ceil_times info.transfer_length _ h).0
+last-short info h = shorter _ _ _ (div_ceil_times info.transfer_length _ h).0
   where
     shorter : (l t e : ℕ) → l ≤ t * e → l - (t - 1) * e ≤ e
     shorter l zero e h = omega (arith, h)

@@ -62,8 +62,7 @@ module _ {K X : Type 0} {cmp : K → K → Ordering} {join : X → X → X} (all
 
   pair-ordered : (es : List (K × X)) (k : K) (w : X) → IsOrdered cmp es
       → IsOrdered cmp (with_pair es k w)
-  pair-ordered es k w s = ordered-map_join all.keys.order join _ ((k, w) ∷ []) s
-      (ordered_one all.keys.order all.keys.same all.laws (k, w))
+  pair-ordered es k w s = search (rules, ordered-map_join, ordered_one)
 
   pair-some : (es : List (K × X)) (k : K) (w : X) → with_pair es k w ≢ []
   pair-some es k w = some-right _ _ (λ e. cc)
@@ -85,8 +84,7 @@ module _ {K X : Type 0} {cmp : K → K → Ordering} {join : X → X → X} (all
           ordered = pair-ordered _ k w m.ordered;
           within = (omega (arith, m.within));
           some = pair-some es k w;
-          each = subst (EachValue P) (sym is)
-              (each-set_value cmp P (is_at (cmp k)) _ (join v w) m.each p);
+          each = search (rules, each-set_value);
         }
 
     -- at a new key with room it is sound
@@ -98,7 +96,7 @@ module _ {K X : Type 0} {cmp : K → K → Ordering} {join : X → X → X} (all
           ordered = pair-ordered _ k w m.ordered;
           within = omega (arith, room);
           some = pair-some _ k w;
-          each = rw (single_new all.keys.order all.laws es k w f) (each-insert_entry cmp P _ k w m.each p);
+          each = search (rules, single_new, each-insert_entry);
         }
 
     -- so it is if there is room, where a join keeps what holds of each value
@@ -113,8 +111,7 @@ module _ {K X : Type 0} {cmp : K → K → Ordering} {join : X → X → X} (all
     joined_there : (found : Option X) → IsOrdered cmp es → value_at cmp es k ≡ found
         → value_at cmp (with_pair es k w) k ≡ join_values join found (Some w)
     joined_there found s f = value_at-map_join all.keys.order join _ ((k, w) ∷ []) k s
-        (ordered_one all.keys.order all.keys.same all.laws (k, w)) ∙ rw
-        (f, tied_itself all.keys.order k)
+        (search (rules, ordered_one)) ∙ rw (f, tied_itself all.keys.order k)
 
     -- beyond a limit: at a held key, at a new one, and at a new key of a full map
     pub held-beyond : (B : X → Type 0) {v : X} → IsOrdered cmp es → value_at cmp es k ≡ Some v

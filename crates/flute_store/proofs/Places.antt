@@ -112,26 +112,17 @@ module _ (w : PartitionScan) (next : Next) (p : IsPlace w) where
     running = tt;
   }
   place-on BlockEnd None e h s =
-      record { blocks = p.blocks; begun = omega (arith, block-next e); within = omega arith; longest = s; running = rw (no-run w.run _ tt h) tt }
+      let b = block-next e in let r = no-run w.run BlockEnd tt h in search rules
   place-on Fitting None e h s =
-      record { blocks = p.blocks; begun = p.begun; within = omega (arith, inside (told-at w _ _ e).0); longest = s; running = rw (no-run _ Fitting tt h) tt }
+      let i = inside (told-at w next Fitting e).0 in
+      let r = no-run w.run Fitting tt h in
+      search rules
   place-on (Wanted r) None e h s =
-      let t = told-at w _ _ e in
-      let l = inside t.0 in
-      record {
-        blocks = p.blocks;
-        begun = p.begun;
-        within = omega (arith);
-        longest = s;
-        running = run-ends _ _ r _ p.running h t.1;
-      }
-  place-on NotHeld None e h s = record {
-    blocks = p.blocks;
-    begun = p.begun;
-    within = (until-within e).1;
-    longest = s;
-    running = rw (no-run _ NotHeld tt h) tt;
-  }
+      let t = told-at w next (Wanted r) e in
+      let i = inside t.0 in
+      let ends = run-ends w.sbn w.esi r w.run p.running h t.1 in search rules
+  place-on NotHeld None e h s =
+      let u = until-within e in let r = no-run w.run NotHeld tt h in search rules
   place-on other None e h s = p
 
   -- and a walk that a turn led to is

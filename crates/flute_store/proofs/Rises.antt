@@ -2,7 +2,7 @@
 use Rattle.flute_store.proofs.Maps.{Objects, Sessions}
 use Rattle.std.proofs.Common.{rules}
 use Rattle.std.proofs.Common.{ℕ, ◌+◌, ◌*◌, ◌≤◌, List, [], ◌∷◌, length, arith, length-append, ◌≡◌}
-use Rattle.std.proofs.Common.{◌++◌, refl, ap, ◌∙◌}
+use Rattle.std.proofs.Common.{◌++◌, refl}
 use Rattle.flute_store.proofs.FactEntries.{any_value, cell-stands, each-append, each-flat_map}
 use Rattle.flute_store.proofs.StoreJoin.{OrderedObject, OrderedSession, OrderedStore}
 use Rattle.std.proofs.Math.Nat.{mul-le-mul_right}
@@ -11,10 +11,10 @@ use Rattle.flute_store.proofs.Common
 use Common.{flat_map, EachValue, Cell, Session, Key, Fact, Info}
 use Common.{InfoConflict, Symbol, Object, key_in, cell_facts, symbol_cell_facts}
 use Common.{object_facts, session_facts, content, IsObject, IsSession, IsStore, Ordering, Less}
-use Common.{ordering_then, session_total, SymbolId, Address, session_cmp, object_cmp, key_cmp}
-use Common.{symbol_id_cmp, part_cmp, address_cmp, info_address, symbol_address, address, StandAfter}
+use Common.{session_total, SymbolId, Address, session_cmp, object_cmp}
+use Common.{symbol_id_cmp, address_cmp, info_address, symbol_address, address, StandAfter}
 use Common.{IsRising, tied_itself, keys_of, AllByRecursion, IsStrictlySortedBy, IsOrdered}
-use Common.{info_cell_facts, symbols_facts}
+use Common.{symbols_facts}
 
 cell_length : {T : Type 0} (told : T → Fact) (clash : Fact) (c : Cell T)
     → length (cell_facts told clash c) ≤ 1
@@ -110,9 +110,7 @@ after_info key (f ∷ F) s = search (rules, after_info key F s.1)
 
 module _ {n : ℕ} where
   object-rises : (key : Key) (x : Object n) → OrderedObject x → IsRising (object_facts key x)
-  object-rises key x p =
-      rising-append (info_cell_facts key _) (symbols_facts key x.symbols)
-      (cell-rises _ _ x.info)
+  object-rises key x p = rising-append _ _ (cell-rises _ _ x.info)
       (groups-rise symbols x.symbols p (any_value x.symbols))
       (cell-stands (λ a. StandAfter a (symbols_facts key x.symbols)) _ _ (λ v. later) later x.info)
     where
@@ -121,68 +119,48 @@ module _ {n : ℕ} where
       symbols = record {
         rises = λ e _. cell-rises _ _ e.1;
         within = λ e. cell-stands (λ a. a ≡ symbol_address key e.0) _ _ (λ v. refl) refl e.1;
-        order =
-            λ j k a b q r l. (λ i. address_cmp (q i) (r i))
-            ∙ ap (λ o. ordering_then o (symbol_id_cmp j k)) (equal_keys key) ∙ l;
+        order = λ j k a b q r l. rw (q, r, equal_keys key, l) refl;
       }
 
       later : StandAfter (info_address key) (symbols_facts key x.symbols)
-      later =
-          after_info key (symbols_facts key x.symbols)
-          (each-flat_map (Of (λ b. (id : SymbolId) × (b ≡ symbol_address key id)))
-          (λ e. symbol_cell_facts key e.0 e.1)
+      later = after_info key _ (each-flat_map _ (λ e. symbol_cell_facts key e.0 e.1)
           (λ e. cell-stands (λ b. (id : SymbolId) × (b ≡ symbol_address key id)) _ _
           (λ v. (e.0, refl)) (e.0, refl) e.1) x.symbols)
 
   object-stands : (P : Address → Type 0) (key : Key) → ((a : Address) → a.key ≡ key → P a)
       → (x : Object n) → Stand P (object_facts key x)
   object-stands P key h x =
-      each-append (Of P) (info_cell_facts _ x.info) (symbols_facts _ x.symbols)
-      (cell-stands P _ _ (λ v. h _ refl) (h _ refl) x.info)
-      (each-flat_map (Of P) (λ e. symbol_cell_facts key _ e.1)
-      (λ e. cell-stands P _ _ (λ v. h (symbol_address _ e.0) refl)
-      (h _ refl) _) x.symbols)
+      each-append (Of P) _ _ (cell-stands P _ _ (λ v. h _ refl) (h _ refl) x.info)
+      (each-flat_map _ (λ e. symbol_cell_facts key e.0 e.1)
+      (λ e. cell-stands P _ _ (λ v. h _ refl) (h _ refl) e.1) x.symbols)
 
   -- the facts of an object, then of a session, rise
   session-rises : (session : Session) (os : Objects n) → OrderedSession os
       → IsRising (session_facts session os)
-  session-rises session os p =
-      groups-rise objects os p.ordered p.each
+  session-rises session os p = groups-rise objects os p.ordered p.each
     where
       objects : AreGroups object_cmp (λ e. object_facts {n = n} (key_in session e.0) e.1)
           (λ o a. a.key ≡ key_in session o) OrderedObject
       objects = record {
-        rises = λ e q. object-rises (key_in session e.0) e.1 q;
-        within =
-            λ e. object-stands (λ a. a.key ≡ key_in session e.0) (key_in session e.0) (λ a q. q)
-            e.1;
-        order =
-            λ j k a b q r l. (λ i. ordering_then (key_cmp (q i) (r i)) (part_cmp a.part b.part))
-            ∙ ap (λ o. ordering_then (ordering_then o (object_cmp j k)) (part_cmp a.part b.part))
-            (tied_itself session_total session)
-            ∙ ap (λ o. ordering_then o (part_cmp a.part b.part)) l;
+        rises = λ e q. object-rises _ e.1 q;
+        within = λ e. object-stands _ _ (λ a q. q) e.1;
+        order = λ j k a b q r l. rw (q, r, tied_itself session_total session, l) refl;
       }
 
   session-stands : (P : Address → Type 0) (session : Session)
       → ((a : Address) → a.key.session ≡ session → P a) → (os : Objects n)
       → Stand P (session_facts session os)
   session-stands P session h os = each-flat_map (Of P) (λ e. object_facts (key_in session e.0) e.1)
-      (λ e. object-stands P (key_in _ _) (λ a q. h a (ap (λ k. k.session) q)) e.1) os
+      (λ e. object-stands P (key_in _ _) (search rules) e.1) os
 
   -- the facts of a store are in the order of their addresses
   pub content-rises : (m : Sessions n) → OrderedStore m → IsRising (content m)
-  content-rises m p =
-      groups-rise sessions m p.ordered p.each
+  content-rises m p = groups-rise sessions m p.ordered p.each
     where
       sessions : AreGroups session_cmp (λ e. session_facts {n = n} e.0 e.1)
           (λ s a. a.key.session ≡ s) OrderedSession
       sessions = record {
         rises = λ e q. session-rises e.0 e.1 q;
-        within = λ e. session-stands (λ a. a.key.session ≡ e.0) e.0 (λ a q. q) e.1;
-        order =
-            λ j k a b q r l. (λ i. ordering_then
-            (ordering_then (session_cmp (q i) (r i)) (object_cmp a.key.object b.key.object))
-            (part_cmp a.part b.part))
-            ∙ ap (λ o. ordering_then (ordering_then o (object_cmp a.key.object b.key.object))
-            (part_cmp a.part b.part)) l;
+        within = λ e. session-stands _ e.0 (λ a q. q) e.1;
+        order = λ j k a b q r l. rw (q, r, l) refl;
       }

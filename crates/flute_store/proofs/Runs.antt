@@ -1,7 +1,7 @@
 -- Gaps are the longest runs of what is wanted: they list just that (specs/Objects: runs).
 use Rattle.std.proofs.Common.{rules}
 use Rattle.std.proofs.Common.{◌≡◌, ℕ, zero, suc, ◌+◌, ◌-◌, ◌<◌, ◌≤◌, true, false, List}
-use Rattle.std.proofs.Common.{[], ◌∷◌, ◌++◌, map, refl, sym, subst, inl, inr, arith}
+use Rattle.std.proofs.Common.{[], ◌∷◌, ◌++◌, map, refl, sym, inl, inr, arith}
 use Rattle.flute_store.proofs.Common
 use Common.{flat_map, range_with_len, SymbolId, Reason, Gap, symbol_id, same_reason}
 use Common.{goes_on, one, before, runs, listed, IsApart, AreRuns, cases_Bool}
@@ -94,7 +94,11 @@ unfolding runs
 gap-runs zero n a {l} r ws {gaps} h e s =
     let same : l ≡ a = omega arith in
     rw (e, same) (before-apart _ _ (rw (← same) s))
-gap-runs (suc k) n a {l} r ws {gaps} h e s = rw (gap-runs k n (a + 1) r _ (omega arith) e (apart-from n a (a + 1) l r _ s), goes_on-next n a l r)
+gap-runs (suc k) n a {l} r ws {gaps} h e s = rw (
+  gap-runs k n (a + 1) r _ (omega arith) e
+      (apart-from n a (a + 1) l r _ s),
+  goes_on-next n a l r,
+)
 
 pub runs-unique : (gaps : List Gap) → AreRuns gaps → runs (flat_map listed gaps) ≡ gaps
 unfolding runs AreRuns
@@ -128,4 +132,7 @@ pub runs-first : (n a b : ℕ) (r : Reason) (ws : List Want) → a < b → Elsew
       reason = r;
     } ∷ runs ws
 runs-first n a b r ws l e =
-    let k : b - a ≡ suc (b - 1 - a) = omega arith in let z : b - 1 + 1 ≡ b = omega arith in rw k (gap-runs (b - 1 - a) n a {l = b - 1} r _ (omega arith) refl (apart-runs (gap n a _ r) _ (subst (λ x. Elsewhere (symbol_id n x) r ws) (sym z) e)))
+    let k : b - a ≡ suc (b - 1 - a) = omega arith in
+    let z : b - 1 + 1 ≡ b = omega arith in
+    rw k (gap-runs (b - 1 - a) n a {l = b - 1} r _ (omega arith) refl
+    (apart-runs (gap n a _ r) _ (search rules)))

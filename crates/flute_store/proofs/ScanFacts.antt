@@ -1,6 +1,6 @@
 -- What all facts show of an object, of which a scan passed some (specs/Shown, specs/Scan).
 use Rattle.std.proofs.Common.{rules}
-use Rattle.std.proofs.Common.{◌≡◌, List, [], ◌∷◌, ◌++◌, Some, None, refl, ap, ◌∙◌, subst}
+use Rattle.std.proofs.Common.{◌≡◌, List, [], ◌∷◌, ◌++◌, Some, None, ap, ◌∙◌}
 use Rattle.std.proofs.Common.{arith}
 use Rattle.flute_parts.proofs.Public.{rising_tells}
 use Rattle.flute_store.proofs.{KeyLists.{first_is}, ToldObjects.{want-symbol}}
@@ -44,13 +44,12 @@ module _ {s : Scanned} {F before rest : List Fact} (a : Among s F before rest) w
 
   -- what the facts show is what was passed and what the others show
   pub shown-all : shown s.key F ≡ shown s.key s.facts ++ shown s.key rest
-  shown-all =
-      rw (a.all, shown-append s.key _ (s.facts ++ rest), shown-none s.key _ (none-before _ _ _ _ (subst IsRising all-again a.rising)), shown-append s.key _ rest)
+  shown-all = search (rules, shown-append, shown-none, none-before, all-again)
 
   -- and the information is in F
   pub information-at : fact_at F (info_address s.key) ≡ Some (Info s.key s.info)
-  information-at =
-      rising_tells F _ a.rising (rw all-again (Contains-append_right _ ((Info s.key s.info) ∷ (a.symbols ++ rest)) _ (first_is _ _)))
+  information-at = rising_tells F _ a.rising (rw all-again
+      (Contains-append_right _ ((Info s.key s.info) ∷ (a.symbols ++ rest)) _ (first_is _ _)))
 
 pub wants-shown : (F : List Fact) (key : Key) (info : Information) → IsRising F
     → wants F key info ≡ wanted info (shown key F) (ids info)
@@ -84,19 +83,15 @@ module _ {o : ScanState} {s : Scanned} {next : Next} (q : Scans o (announced s n
   walks-all = q.walks _ ordered-all (shown-known _ _) coming-all
 
   pub gaps-all : gaps F s.key s.info ≡ s.given ++ gaps_left (walk_of o.walk (shown s.key f.rest))
-  gaps-all =
-      rw (wants-shown F s.key s.info f.rising ∙ ap (λ es. wanted s.info es (ids s.info)) all-shown, walks-all.gaps_are)
+  gaps-all = rw (
+    wants-shown F s.key s.info f.rising ∙ ap (λ es. wanted s.info es (ids s.info))
+        all-shown,
+    walks-all.gaps_are,
+  )
 
   pub information-all : fact_at F (info_address s.key) ≡ Some (Info s.key s.info)
   information-all = information-at among-all
 
   pub not-whole-all : (g : Gap) (gs : List Gap) → s.given ≡ [] → gaps_left
       (walk_of o.walk (shown s.key f.rest)) ≡ g ∷ gs → IsNotWhole F s.key (symbol_id g.sbn g.first)
-  not-whole-all g gs n e = record {
-    info = s.info;
-    information = information-all;
-    gap = g;
-    others = gs;
-    gaps_are = rw (gaps-all, n, e);
-    first_is = refl;
-  }
+  not-whole-all g gs n e = search (rules, information-all, gaps-all, first_is)

@@ -3,7 +3,7 @@ use Rattle.flute_store.proofs.Maps.{Entry}
 use Rattle.std.proofs.Common.{rules}
 use Rattle.flute_store.proofs.ScanFacts.{ordered-all, coming-all, not-whole-all}
 use Rattle.std.proofs.Common.{◌≡◌, ℕ, ◌+◌, ◌<◌, List, [], ◌∷◌, ◌++◌, length, Option, Some, None}
-use Rattle.std.proofs.Common.{refl, sym, ap, ◌∙◌, subst, inl, inr, arith, append_assoc, append-nil}
+use Rattle.std.proofs.Common.{refl, sym, ◌∙◌, subst, inl, inr, arith, append_assoc}
 use Rattle.std.proofs.lemmas.Grind.{flat_map-append}
 use Rattle.flute_store.proofs.{HowMany.{how-append}}
 use Rattle.flute_store.proofs.{Turns.{turn-turns}}
@@ -12,8 +12,8 @@ use Rattle.flute_store.proofs.Shown.{shown-known}
 use Rattle.flute_store.proofs.ScanTurns.{shows-next, length-left, begin-symbols}
 use Rattle.flute_store.proofs.Common
 use Common.{flat_map, IfSome, IsKnown, IsOrdered, EachValue, symbol_id_cmp, symbol_id, Fact, Gap}
-use Common.{Turn, PartitionScan, Counted, runs, listed, IsCount, Adds, walk_of, symbols_left}
-use Common.{gaps_left, IsPlace, turn_of, held_after, TurnsTo, after_block, after_missing, shown}
+use Common.{Turn, PartitionScan, Counted, listed, IsCount, Adds, walk_of, symbols_left}
+use Common.{gaps_left, IsPlace, turn_of, held_after, TurnsTo, after_missing, shown}
 use Common.{IsNotWhole, Scanned, coming_fact, Follows, GaveGap, Next, announced, held_next}
 use Common.{ScanState, IsScan, ComesAs, one_run, FitsSoFar, Scans}
 use Rattle.flute_store.specs.declared.partition_scan.Upcoming.TheVariants as Upcoming
@@ -36,8 +36,10 @@ module _ {o : ScanState} {s : Scanned} {next : Next} {t : Option Turn} {x : Part
   pub turns-at : (more : List Entry) → IsOrdered symbol_id_cmp (shown s.key s.facts ++ more)
       → EachValue IsKnown more → ComesAs s.key (coming_fact s.key next) more
       → TurnsTo (walk_of o.walk more) t (walk_of x (held_after t more))
-  turns-at more r k h =
-      subst (λ (y : Option Turn × PartitionScan). TurnsTo (walk_of o.walk more) y.0 (walk_of y.1 (held_after y.0 more))) (sym p.turn_is) (turn-turns _ _ _ (shows-next _ _ _ h) (p.scans.walks _ r k h).walk (subst (λ (y : Option Turn × PartitionScan). IsPlace y.1) p.turn_is p.place))
+  turns-at more r k h = subst (λ (y : Option Turn × PartitionScan). TurnsTo (walk_of o.walk more)
+      y.0 (walk_of y.1 (held_after y.0 more))) (sym p.turn_is) (turn-turns _ _ _
+      (shows-next _ _ _ h) (p.scans.walks _ r k h).walk
+      (subst (λ (y : Option Turn × PartitionScan). IsPlace y.1) p.turn_is p.place))
 
 pub symbols-same : (x y : PartitionScan) → x ≡ y
     → symbols_left (walk_of x []) ≡ symbols_left (walk_of y [])
@@ -57,14 +59,28 @@ moved-done = search rules
 pub scan-begun : {o : ScanState} {s : Scanned} {next : Next} {x : PartitionScan}
     → Step o s next None x → Scans (record o { walk = x }) (announced s next)
 scan-begun {o} {s} {next} {x} p =
-    let q = p.scans in let k = step-kind p in let a : symbols_left (walk_of x []) ≡ symbols_left (walk_of o.walk []) = symbols-same x (after_block o.walk) k.2 ∙ begin-symbols o.walk (told-at o.walk (held_next next) Upcoming.BlockEnd k.0).0 (block-next o.walk (held_next next) p.scan.place k.0) in let r : x.run ≡ o.walk.run = ap (λ (y : PartitionScan). y.run) k.2 in record { key_is = q.key_is; info_is = q.info_is; begins = q.begins; walks = λ more d n h. let w = turns-at p more d n h in record { walk = w.0.walk; gaps_are = (q.walks more d n h).gaps_are ∙ ap (λ ws. s.given ++ runs ws) (sym w.0.left_is) }; done = moved-done (announced s next) _ _ (record { symbols = a; run = r }) s.bytes q.done; counts = q.counts; ahead_is = q.ahead_is ∙ (λ i. length (sym a i) + one_run (sym r i)) }
+    let q = p.scans in
+    let k = step-kind p in
+    let l = told-at o.walk _ Upcoming.BlockEnd k.0 in
+    let a : symbols_left (walk_of x []) ≡ symbols_left (walk_of o.walk []) =
+    symbols-same x _ k.2 ∙ begin-symbols o.walk l.0 (block-next o.walk _ p.scan.place k.0) in
+    let r : x.run ≡ o.walk.run = rw k.2 in record {
+      key_is = q.key_is;
+      info_is = q.info_is;
+      begins = q.begins;
+      walks = λ more d n h. let w = (turns-at p more d n h).0 in
+          record { walk = w.walk; gaps_are = rw ((q.walks more d n h).gaps_are, w.left_is) refl };
+      done = moved-done (announced s next) _ _ (record { symbols = a; run = r }) s.bytes q.done;
+      counts = q.counts;
+      ahead_is = rw (q.ahead_is, a, r) refl;
+    }
 
 -- ---- a gap was given
 
 -- the counts with this gap, and the scan after it
 counted-gap : (c d : Counted) (given : List Gap) (g : Gap) → IsCount c (flat_map listed given)
     → Adds g c d → IsCount d (flat_map listed (given ++ g ∷ []))
-counted-gap c d given g i a = rw (flat_map-append _ _ _, append-nil _) (omega (arith, how-append))
+counted-gap c d given g i a = search (rules, flat_map-append, how-append)
 
 abbrev pub behind-gap : Scanned → Next → Gap → PartitionScan → Scanned
 behind-gap s next g x = record s {
@@ -93,14 +109,10 @@ gap-given {o} {s} {next} {g} {x} p c a = (
     key_is = q.key_is;
     info_is = q.info_is;
     begins = q.begins;
-    walks = λ more d n h.
-        let w = turns-at p more d n h in
-        record {
-          walk = w.walk;
-          gaps_are =
-              (q.walks more d n h).gaps_are ∙ ap (λ gs. s.given ++ gs) w.first
-              ∙ sym (append_assoc s.given (g ∷ []) (gaps_left (walk_of x more)));
-        };
+    walks = λ more d n h. let w = turns-at p more d n h in record {
+      walk = w.walk;
+      gaps_are = rw ((q.walks more d n h).gaps_are, w.first, append_assoc) refl;
+    };
     done = tt;
     counts = counted-gap o.wanted c s.given g q.counts a;
     ahead_is = refl;

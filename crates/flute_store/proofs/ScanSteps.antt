@@ -4,8 +4,8 @@ use Rattle.std.proofs.Common.{rules}
 use Rattle.flute_store.proofs.ScanFacts.{Among, gaps-all, information-all, information-at}
 use Rattle.flute_store.proofs.ScanFacts.{shown-all}
 use Rattle.flute_store.proofs.ScanGaps.{Step, step-kind, symbols-same, moved-done, scan-begun}
-use Rattle.flute_store.proofs.ScanGaps.{gap-given, behind-gap}
-use Rattle.flute_store.proofs.ScanSymbols.{shown-next, behind-symbol, symbol-passed, keeps-at}
+use Rattle.flute_store.proofs.ScanGaps.{gap-given}
+use Rattle.flute_store.proofs.ScanSymbols.{shown-next, symbol-passed, keeps-at}
 use Rattle.flute_store.proofs.ScanSymbols.{keeps-end, held-same, passed-done, fitting-done}
 use Rattle.flute_store.proofs.ScanSymbols.{first-wanted}
 use Rattle.std.proofs.Common.{◌≡◌, ℕ, ◌+◌, ◌≤◌, List, [], ◌∷◌, ◌++◌, length, take, Option, Some}
@@ -21,7 +21,7 @@ use Rattle.flute_store.proofs.Common
 use Common.{flat_map, Contains, IfSome, option_map, none-some, value_at, IsOrdered, Cell, One}
 use Common.{symbol_address, fact_at, IsRising, symbol_id_cmp, Key, SymbolId, Fact, Turn}
 use Common.{PartitionScan, Counted, listed, gaps, object, value_bytes, Whole, CanAdd, AddsTurn}
-use Common.{held_bytes, walk_of, symbols_left, gaps_left, IsWalk, IsPlace, turn_of, shown, Scanned}
+use Common.{held_bytes, walk_of, symbols_left, gaps_left, IsPlace, turn_of, shown, Scanned}
 use Common.{CanFollow, Follows, IsFirstPart, value_of, Turned, PartOf, BeginsBlocks}
 use Common.{Next, announced, held_next, passed_at_end, Stepped, ScanState, IsScan, CountsWithin}
 use Common.{one_run, FitsSoFar, Scans, symbol_fact}
@@ -71,8 +71,10 @@ whole-bytes : {s : Scanned} (w : PartitionScan) {F before rest : List Fact}
     (λ b. Whole F s.key s.info × (object F s.key s.info ≡ take s.info.transfer_length b))
 unfolding object first-part
 whole-bytes w None d a l g = tt
-whole-bytes {s} w {F} (Some bytes) d a l g =
-    (gapless-whole F _ _ (information-at a) (g ∙ d.no_gap), rw (d.all ∙ ap (λ xs. d.done ++ xs) l ∙ append-nil _, ← (first-part d a).values))
+whole-bytes {s} w {F} (Some bytes) d a l g = (
+  gapless-whole F _ _ (information-at a) (g ∙ d.no_gap),
+  rw (d.all ∙ ap (λ xs. d.done ++ xs) l ∙ append-nil _, ← (first-part d a).values),
+)
 
 -- after the last turn all gaps were given, and the counts are those of the gaps
 pub end-given : {o : ScanState} {s : Scanned} {x : PartitionScan} → Step o s None (Some Turn.End) x
@@ -80,17 +82,15 @@ pub end-given : {o : ScanState} {s : Scanned} {x : PartitionScan} → Step o s N
 end-given {o} {s} {x} p =
     let q = p.scans in
     let k = step-kind p in
-    let l = told-at o.walk None _ k.0 in
-    let same : (more : List Entry) → gaps_left (walk_of x more) ≡ gaps_left (walk_of o.walk more) =
-    λ more. rw k.2 in
-    let none : (more : List Entry) → gaps_left (walk_of o.walk more) ≡ [] = λ more. gaps-end
-    (walk_of _ more) (sym (upcoming-end _ l.0 l.1)) k.1 in (
+    let l = told-at o.walk None Upcoming.End k.0 in
+    let none : (more : List Entry) → gaps_left (walk_of o.walk more) ≡ [] = λ more. gaps-end _
+    (sym (upcoming-end _ l.0 l.1)) k.1 in (
       (
         refl,
-        λ F f. let g : Follows s None F
-            = record { before = f.before; rest = f.rest; all = f.all; rising = f.rising; come = f.come } in
-            let a : gaps F s.key s.info ≡ s.given = gaps-all q g ∙ ap (λ gs. s.given ++ gs)
-            (none (shown s.key f.rest)) ∙ append-nil s.given in record {
+        λ F f. let g : Follows s None F = search rules
+            in
+            let a : gaps F s.key s.info ≡ s.given = rw (gaps-all q g, none (shown s.key f.rest), append-nil)
+            refl in record {
               information = information-all q g;
               gaps_are = a;
               whole = whole-bytes o.walk s.bytes q.done
@@ -103,13 +103,11 @@ end-given {o} {s} {x} p =
         info_is = q.info_is;
         begins = q.begins;
         walks = λ more d n h. let w = q.walks more d n h in record {
-          walk = subst (λ (y : PartitionScan). IsWalk (walk_of y more)) (sym k.2) w.walk;
-          gaps_are = w.gaps_are ∙ ap (λ gs. s.given ++ gs) (sym (same more));
+          walk = rw k.2 w.walk;
+          gaps_are = rw k.2 w.gaps_are;
         };
-        done = moved-done (announced s None) _ _ (record {
-          symbols = symbols-same x o.walk k.2;
-          run = ap (λ (y : PartitionScan). y.run) k.2;
-        }) s.bytes q.done;
+        done = moved-done (announced s None) _ _
+            (record { symbols = symbols-same x _ k.2; run = rw k.2 }) s.bytes q.done;
         counts = q.counts;
         ahead_is = refl;
       },
@@ -149,9 +147,17 @@ pub step-scan : {o : ScanState} (h : Option Held) (t : Option Turn)
     {x : PartitionScan} (c : Counted) → IsScan o → (t, x) ≡ turn_of o.walk h → IsPlace x
     → AddsTurn t o.wanted c → IsScan (state_of o x c)
 step-scan {o} h (Some (Turn.Gap g)) {x} c sc e pl a =
-    let k = kind _ h _ x e in let within : CountsWithin x c = omega (arith, (within-gap h o.wanted sc.place sc.within g x k).1, how-all (listed g), listed-length g) in record { place = pl; within = within; partition = (moved-on o.walk h (Some (Turn.Gap g)) x k).0 ∙ sc.partition }
+    let k = kind _ h _ x e in
+    let within : CountsWithin x c = omega
+    (arith, (within-gap h o.wanted sc.place sc.within g x k).1, how-all (listed g), listed-length g)
+    in record { place = pl; within = within; partition = search (rules, moved-on) }
 step-scan {o} h t {x} c sc e pl a =
-    let k = kind _ h t x e in record { place = pl; within = rw a (within-turn h _ sc.place sc.within t x tt k); partition = (moved-on _ h t x k).0 ∙ sc.partition }
+    let k = kind _ h t x e in
+    record {
+      place = pl;
+      within = rw a (within-turn h _ sc.place sc.within t x tt k);
+      partition = (moved-on _ h t x k).0 ∙ sc.partition;
+    }
 
 ordered-next : (s : Scanned) (n : HeldBytes) → CanFollow s (Some n)
     → IsOrdered symbol_id_cmp (shown s.key s.facts ++ (n.0, cell_of n.1) ∷ [])
@@ -166,40 +172,36 @@ passed-end : {o : ScanState} {s : Scanned} {n : HeldBytes}
     {x : PartitionScan} → Step o s (Some n) (Some Turn.End) x → (c : Counted) → c ≡ o.wanted
     → Stepped s (Some n) (state_of o x c) (Some Turn.Passed)
 passed-end {o} {s} {n} {x} p c a =
-    let r = symbol-passed o s n x _ p.scans (keeps-end p) (passed-done s n (Some n) s.bytes s.bytes (step-kind p).2 p.scans.done) in (behind-symbol s n s.bytes x, r.0, same-counts o (behind-symbol s n _ x) x c a r.1)
+    let r = symbol-passed o s n x _ p.scans (keeps-end p)
+    (passed-done s n (Some n) s.bytes s.bytes (step-kind p).2 p.scans.done) in
+    (_, r.0, same-counts o _ _ _ a r.1)
 
 -- a step of a scan, whatever turn it makes
 pub stepped : {o : ScanState} {s : Scanned} (next : Next) (t : Option Turn) {x : PartitionScan}
     → Step o s next t x → (c : Counted) → CanFollow s next → AddsTurn t o.wanted c
     → Stepped s next (state_of o x c) (passed_at_end t (held_next next))
-stepped {o} {s} next None {x} p c f a = same-counts o (announced s next) x c a (scan-begun p)
-stepped {o} {s} next (Some (Turn.Gap g)) {x} p c f a =
-    let r = gap-given p c a in (behind-gap s next g x, r.0, r.1)
+stepped {o} next None p c f a = same-counts o _ _ _ a (scan-begun p)
+stepped next (Some (Turn.Gap g)) p c f a = let r = gap-given p c a in (_, r.0, r.1)
 stepped {o} None (Some Turn.Fitting) p c f a =
     absurd (none-some _ (told-at o.walk None Upcoming.Fitting (step-kind p).0).1.1)
 stepped {o} {s} (Some n) (Some Turn.Fitting) {x} p c f a =
     let bytes = option_map (λ b. b ++ value_of n) s.bytes in
-    let done = fitting-done p s.bytes bytes (ordered-next s n f) p.scans.done in
-    let r = symbol-passed o s n x bytes p.scans (keeps-at p tt (λ more. refl)) done in
-    (behind-symbol s n bytes x, r.0, same-counts o (behind-symbol s n bytes x) x c a r.1)
+    let r = symbol-passed o s n x bytes p.scans (keeps-at p tt (λ more. refl))
+    (fitting-done p s.bytes bytes (ordered-next s n f) p.scans.done) in
+    (_, r.0, same-counts o _ _ _ a r.1)
 stepped {o} None (Some Turn.Wanted) p c f a =
     let k = step-kind p in absurd (none-some _ (told-at o.walk None (Upcoming.Wanted k.0) k.1).2.1)
 stepped {o} {s} (Some n) (Some Turn.Wanted) {x} p c f a =
-    let r = symbol-passed o s n x None p.scans (keeps-at p tt (λ more. refl)) tt in (
-      behind-symbol s n None x,
-      (r.0, first-wanted p s.bytes p.scans.done),
-      same-counts o
-          (behind-symbol s n None x) x c a r.1,
-    )
+    let r = symbol-passed o s n x None p.scans (keeps-at p tt (λ more. refl)) tt in
+    (_, (r.0, first-wanted p s.bytes p.scans.done), same-counts o _ _ _ a r.1)
 stepped {o} None (Some Turn.Passed) p c f a =
     absurd (let t = told-at o.walk None Upcoming.Passed (step-kind p).0 in none-some t.0 t.1)
 stepped {o} {s} (Some n) (Some Turn.Passed) {x} p c f a =
-    let done = passed-done s n (Some n) s.bytes s.bytes (step-kind p).1 p.scans.done in
-    let r = symbol-passed o s n x s.bytes p.scans (keeps-at p tt (λ more. refl)) done in
-    (behind-symbol s n s.bytes x, r.0, same-counts o (behind-symbol s n s.bytes x) x c a r.1)
-stepped {o} {s} None (Some Turn.End) {x} p c f a =
-    let r = end-given p in
-    (behind-end s x, r.0, same-counts o (behind-end s x) x c a r.1)
+    let r = symbol-passed o s n x s.bytes p.scans (keeps-at p tt (λ more. refl))
+    (passed-done s n (Some n) s.bytes s.bytes (step-kind p).1 p.scans.done) in
+    (_, r.0, same-counts o _ _ _ a r.1)
+stepped {o} None (Some Turn.End) p c f a =
+    let r = end-given p in (_, r.0, same-counts o _ _ _ a r.1)
 stepped (Some (id, None)) (Some Turn.End) p c f a = passed-end p c a
 stepped (Some (id, Some v)) (Some Turn.End) p c f a = passed-end p c a
 
@@ -210,9 +212,5 @@ part-of o s q = by_bytes _ q.done
         → IfSome bytes (λ b. (F before rest : List Fact) → F ≡ before ++ (s.facts ++ rest)
         → IsRising F → IsFirstPart F s.key s.info b)
     by_bytes None d = tt
-    by_bytes (Some b) d = λ F before rest e r. first-part d (record {
-      symbols = q.begins.0;
-      begins = q.begins.1;
-      all = e;
-      rising = r;
-    })
+    by_bytes (Some b) d = λ F before rest e r. first-part d
+        (record { symbols = q.begins.0; begins = q.begins.1; all = e; rising = r })

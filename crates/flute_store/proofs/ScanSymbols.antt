@@ -80,7 +80,10 @@ pub keeps-at : {o : ScanState} {s : Scanned} {n : HeldBytes}
     {t : Option Turn} {x : PartitionScan} → Step o s (Some n) t x → Steps t
     → ((more : List Entry) → held_after t ((n.0, cell_of n.1) ∷ more) ≡ more) → KeepsAt o s n x
 keeps-at {o} {s} {n} {t} {x} p st h more r m =
-    let es : List Entry = (n.0, cell_of n.1) ∷ more in let k = step-keeps (walk_of o.walk es) t (walk_of x (held_after t es)) st (turns-at p es r (known-cell n.1, m) (next-comes s n more)) in (subst (λ es. IsWalk (walk_of x es)) (h more) k.walk, ap (λ es. gaps_left (walk_of x es)) (sym (h more)) ∙ ap runs k.left_is)
+    let es : List Entry = (n.0, cell_of n.1) ∷ more in
+    let k = step-keeps (walk_of o.walk es) t (walk_of x (held_after t es)) st
+    (turns-at p es r (known-cell n.1, m) (next-comes s n more)) in
+    (subst (λ es. IsWalk (walk_of x es)) (h more) k.walk, search (rules, runs))
 
 -- held symbols after the last block
 pub keeps-end : {o : ScanState} {s : Scanned} {n : HeldBytes}
@@ -166,26 +169,22 @@ fitting-done {o} {s} {n} {x} p (Some b) said r d =
     let es = shown s.key (s.facts ++ next_fact s.key n ∷ []) in
     let v : value_at symbol_id_cmp es here ≡ Some (One (value_of n)) = ap
     (λ es. value_at symbol_id_cmp es here) f ∙ ap
-    (value_at symbol_id_cmp (shown s.key s.facts ++ more)) (sym h.0) ∙ value-last
-    (shown s.key s.facts) (n.0, cell_of n.1) r ∙ ap Some h.1 in
+    (value_at symbol_id_cmp (shown s.key s.facts ++ more)) (sym h.0) ∙ value-last _ _ r ∙ ap Some
+    h.1 in
     let fit : fits s.info here (length (value_of n)) ≡ true =
     (λ j. fits ((p.scans.info_is ∙ sym p.scan.partition) j) here (h.2 j)) ∙ t.1.2 in
     let old : held_bytes es d.done ≡ held_bytes (shown s.key s.facts) d.done = ap
-    (λ es. held_bytes es d.done) f ∙ held-same (shown s.key s.facts) more d.done
+    (λ es. held_bytes es d.done) f ∙ held-same _ more d.done
     (λ id c. let h = d.held id c in (One h.0, h.1)) in record {
       done = d.done ++ here ∷ [];
       all = d.all ∙ ap (λ xs. d.done ++ xs) (take-symbols o.walk l ∙ ap (λ xs. here ∷ xs)
           (sym (symbols-same x (record o.walk { esi = o.walk.esi + 1 }) k.2))) ∙ sym
-          (append_assoc d.done (here ∷ []) (symbols_left (walk_of x [])));
+          (append_assoc d.done (here ∷ []) _);
       held = λ id c. elim (Contains-append_cases d.done (here ∷ []) id c) [
-        | inl a ↦ let g = d.held id a in (
-          g.0,
-          ap (λ es. value_at symbol_id_cmp es id) f ∙
-              value-more (shown s.key s.facts) more id (One g.0) g.1,
-          g.2,
-        )
+        | inl a ↦ let g = d.held id a in
+            (_, ap (λ es. value_at symbol_id_cmp es id) f ∙ value-more _ more id _ g.1, g.2)
         | inr a ↦ let z = one_is here id a in (
-          value_of n,
+          _,
           subst
               (λ id. value_at symbol_id_cmp es id ≡ Some (One (value_of n))) z v,
           subst
@@ -204,22 +203,24 @@ runs-head : (id : SymbolId) (r : Reason) (ws : List (SymbolId × Reason)) → (g
 unfolding runs
 runs-head id r ws = by_gaps _
   where
-    by_gaps : (gaps : List Gap)
-        → (g : Gap) × (gs : List Gap) × (before (one (id, r)) gaps ≡ g ∷ gs) × (g.sbn ≡ id.sbn)
-        × (g.first ≡ id.esi)
+    by_gaps : (gaps : List Gap) → (g : Gap) × (gs : List Gap) × (before (one (id, r)) gaps ≡ g ∷ gs)
+        × (g.sbn ≡ id.sbn) × (g.first ≡ id.esi)
     by_gaps [] = (one (id, r), [], refl, refl, refl)
     by_gaps (h ∷ gaps) = elim (cases_Bool (goes_on (one (id, r)) h)) [
       | inl t ↦ (
         record h { first = id.esi },
         gaps,
-        ap (λ b. cond b (record h { first = id.esi } ∷ gaps) (one (id, r) ∷ h ∷ gaps)) t,
-        sym (goes_on-tells (one (id, r)) h t).0,
+        ap
+            (λ b. cond b (record h { first = id.esi } ∷ gaps) (one (id, r) ∷ h ∷ gaps)) t,
+        sym
+            (goes_on-tells (one (id, r)) h t).0,
         refl,
       )
       | inr t ↦ (
         one (id, r),
         h ∷ gaps,
-        ap (λ b. cond b (record h { first = id.esi } ∷ gaps) (one (id, r) ∷ h ∷ gaps)) t,
+        ap
+            (λ b. cond b (record h { first = id.esi } ∷ gaps) (one (id, r) ∷ h ∷ gaps)) t,
         refl,
         refl,
       )

@@ -11,9 +11,9 @@ use Rattle.flute_store.proofs.{Lookups.{blocks_from-end, blocks_from-all}, ToldO
 use Rattle.flute_store.proofs.HowMany.{how-nil}
 use Rattle.flute_store.proofs.{Runs.{runs-listed}, Turns.{start-walk}, KeyLists.{none_in}}
 use Rattle.flute_store.proofs.Common
-use Common.{flat_map, Bor, none-some, IsKnown, value_at, IsOrdered, Cell, One, Conflict}
+use Common.{Bor, none-some, IsKnown, value_at, IsOrdered, Cell, One, Conflict}
 use Common.{Information, sizes, symbol_id_cmp, symbol_id, Key, SymbolId, Fact}
-use Common.{Counted, IsCount, held_bytes, PartitionScan, wants, listed, block_from, blocks_from}
+use Common.{Counted, IsCount, held_bytes, PartitionScan, wants, block_from, blocks_from}
 use Common.{Walk, walk_of, at_start, symbols_left, gaps_left, ShowsNext, after_block}
 use Common.{shown_by, shown, Scanned, next_fact, coming_fact, at_begin, GaveAll, Next, held_next}
 use Common.{run_length, CountsWithin, ScanState, ComesAs, one_run, Scans}
@@ -42,7 +42,10 @@ shows-next key (Some (id, None)) more h = (Conflict, h.0, rw (h.1, shown-told _ 
 
 pub length-left : (w : Walk)
     → length (symbols_left w) ≡ (w.size - w.esi) + length (blocks_from w.partition w.begun)
-length-left w = rw (length-append (block_from w.sbn _ w.size) (blocks_from _ w.begun), length-map-range_with_len (symbol_id _) w.esi (w.size - w.esi))
+length-left w = rw (
+  length-append (block_from w.sbn _ w.size) (blocks_from _ w.begun),
+  length-map-range_with_len (symbol_id _) w.esi (w.size - w.esi),
+)
 
 -- none at the end
 pub end-symbols : (w : PartitionScan) → w.esi ≡ w.size → w.begun ≡ length (sizes w.partition)
@@ -104,4 +107,4 @@ new-within w c i r = omega (arith, ap run_length r, how-nil)
 
 pub counts-wants : (o : ScanState) (s : Scanned) (F : List Fact) → Scans o s → GaveAll s F
     → IsCount o.wanted (wants F s.key s.info)
-counts-wants o s F q g = rw (← (ap (flat_map listed) (sym g.gaps_are) ∙ runs-listed (wants F _ s.info))) q.counts
+counts-wants o s F q g = search (rules, runs-listed)

@@ -1,4 +1,5 @@
 -- An object whose datagrams were all taken is whole (specs/Sent).
+use Rattle.std.proofs.Common.{rules}
 use Rattle.std.proofs.Common.{◌≡◌, ℕ, zero, suc, inl, inr, List, [], ◌∷◌, ◌++◌, length, map, take}
 use Rattle.std.proofs.Common.{true, cond, Bool, Some, refl, sym, ap, subst, ◌∙◌, arith}
 use Rattle.std.proofs.lemmas.List.{Folds.{flat_map-map}, take_all}
@@ -28,7 +29,7 @@ keeps : (p : Fact → Bool) (F : List Fact) (f : Fact) → p f ≡ true → Memb
     → Member f (filter p F)
 unfolding Member
 keeps p [] f passed m = absurd m
-keeps p (g ∷ F) f passed (inl e) = rw (ap p (sym e) ∙ passed) (inl e)
+keeps p (g ∷ F) f passed (inl e) = search rules
 keeps p (g ∷ F) f passed (inr m) = elim (cases_Bool _) [
   | inl here ↦ subst (λ b. Member f (cond b (g ∷ filter p F) (filter p F))) (sym here)
       (inr (keeps p F f passed m))
@@ -46,17 +47,16 @@ holds : (F : List Fact) (key : Key) (info : Information) (content : List ℕ) �
 holds F key info content v same =
     let test : Fact → Bool = λ f. same_key (address f).key key in
     record {
-      told = λ f sent. Contains-from F f (kept test F f
-          (Member-from _ f ((same f).1 ((told-iff key info content f v).1 sent))));
-      only = λ f c at'. (told-iff key info content f v).0 ((same f).0 (Contains-from _ f (keeps _ F f (ap (λ k. same_key k key) at' ∙ key_itself key) (Member-from F f c))));
+      told = λ f sent. Contains-from F f
+          (kept test F f (Member-from _ f ((same f).1 ((told-iff key info content f v).1 sent))));
+      only = λ f c at'. (told-iff key info content f v).0 ((same f).0 (Contains-from _ f
+          (keeps _ F f (ap (λ k. same_key k key) at' ∙ key_itself key) (Member-from F f c))));
     }
 
 module _ (F : List Fact) (key : Key) (info : Information) (content : List ℕ)
     (h : Holds F key info content) where
   info_there : fact_at F (info_address key) ≡ Some (Info key info)
-  info_there =
-      fact_at-one F _ _ (h.told _ (inl refl)) refl
-      (λ g c at'. only_info g (h.only g c (ap (λ a. a.key) at')) at')
+  info_there = fact_at-one F _ _ (h.told _ (inl refl)) refl (search rules)
     where
       only_info : (g : Fact) → IsSent key info (symbols_of info content) g
           → address g ≡ info_address key → g ≡ Info key info
@@ -66,10 +66,8 @@ module _ (F : List Fact) (key : Key) (info : Information) (content : List ℕ)
 
   symbol_there : (s : SymbolId × List ℕ) → Contains (symbols_of info content) s
       → fact_at F (symbol_address key s.0) ≡ Some (Symbol key s.0 s.1)
-  symbol_there s there =
-      fact_at-one F _ _
-      (h.told _ (inr (s, there, refl))) refl
-      (λ g c at'. only_symbol g (h.only g c (ap (λ a. a.key) at')) at')
+  symbol_there s there = fact_at-one F _ _ (search rules) refl
+      (λ g c at'. only_symbol g (search rules) at')
     where
       only_symbol : (g : Fact) → IsSent key info (symbols_of info content) g
           → address g ≡ symbol_address key s.0 → g ≡ Symbol key s.0 s.1
@@ -86,7 +84,7 @@ module _ (F : List Fact) (key : Key) (info : Information) (content : List ℕ)
   sent_as : (ss : List (SymbolId × List ℕ)) (id : SymbolId) → Contains (map (λ s. s.0) ss) id
       → (s : SymbolId × List ℕ) × Contains ss s × (s.0 ≡ id)
   sent_as [] id c = absurd (omega (arith, c.1))
-  sent_as (s ∷ ss) id (zero, l, e) = (s, (0, omega arith, refl), e)
+  sent_as (s ∷ ss) id (zero, l, e) = search rules
   sent_as (s ∷ ss) id (suc k, l, e) =
       let t = sent_as ss _ (k, omega (arith, l), e) in
       (t.0, (suc _, omega (arith, t.1.1), t.1.2), t.2)

@@ -1,23 +1,24 @@
 -- The symbols that rising facts show of an object (specs/Shown).
 use Rattle.flute_store.proofs.Maps.{Entry}
 use Rattle.std.proofs.Common.{rules}
-use Rattle.std.proofs.Common.{◌≡◌, ℕ, Bool, cond, List, [], ◌∷◌, ◌++◌, Some, refl, sym, ap, ◌∙◌}
-use Rattle.std.proofs.Common.{subst, inl, inr, append_assoc}
+use Rattle.std.proofs.Common.{◌≡◌, ℕ, cond, List, [], ◌∷◌, ◌++◌, Some, refl, sym, ap, ◌∙◌}
+use Rattle.std.proofs.Common.{inl, inr, append_assoc}
 use Rattle.flute_parts.proofs.Public.{fact_at-after}
 use Rattle.flute_store.proofs.{FactEntries.{not_same}, StoreJoin.{not_symbol, same_id}}
 use Rattle.flute_store.proofs.Lookups.{Above}
 use Rattle.flute_store.proofs.Common
-use Common.{AllByRecursion, IsStrictlySortedBy, keys_of, Equal, is_eq, ordering_then, Equal-is}
+use Common.{AllByRecursion, IsStrictlySortedBy, keys_of, Equal, is_eq, Equal-is}
 use Common.{cases_Bool, false≢true, IsKnown, value_at, IsOrdered, EachValue, Cell, Conflict}
 use Common.{symbol_address, address, fact_at, IsRising, StandAfter, key_cmp, symbol_id_cmp}
-use Common.{address_cmp, same_key, symbol_id_place, Key, SymbolId}
+use Common.{same_key, symbol_id_place, Key, SymbolId}
 use Common.{Fact, Info, InfoConflict, Symbol, SymbolConflict, fact_at-nil, fact_at-here}
 use Common.{fact_at-elsewhere, symbol_id_itself, symbol_fact, shown_by, shown}
 
 pub shown-append : (key : Key) (F G : List Fact) → shown key (F ++ G) ≡ shown key F ++ shown key G
 unfolding shown
 shown-append key [] G = refl
-shown-append key (f ∷ F) G = rw (shown-append key F G, ← append_assoc (shown_by _ f) (shown key F) _)
+shown-append key (f ∷ F) G = rw
+    (shown-append key F G, ← append_assoc (shown_by _ f) (shown key F) _)
 
 -- ---- what a fact shows
 
@@ -34,17 +35,17 @@ shown-cases : (key : Key) (f : Fact) (P : List Entry → Type 0) →
 shown-cases key (Info k i) P n s = n (λ id. not_symbol k _ _)
 shown-cases key (InfoConflict k) P n s = n (λ id. not_symbol k _ _)
 shown-cases key (Symbol k id b) P n s = shown-if _ k _ _ P (λ d. n (λ j e. d (ap (λ a. a.key) e)))
-    (λ e. s id _ (λ z. cc) (ap (λ k. symbol_address k id) e) (ap (λ k. Some (Symbol k id b)) e))
+    (search rules)
 shown-cases key (SymbolConflict k id) P n s = shown-if _ k _ _ P
     (λ d. n (λ j e. d (ap (λ a. a.key) e))) (λ e. s id Conflict (λ z. cc)
-    (ap (λ k. symbol_address k id) e) (ap (λ k. Some (SymbolConflict k id)) e))
+    (search rules) (search rules))
 
 pub shown-none : (key : Key) (F : List Fact) → AllByRecursion (λ f. (address f).key ≡ key → ⊥) F
     → shown key F ≡ []
 unfolding shown
 shown-none key [] n = refl
 shown-none key (f ∷ F) n = ap (λ es. es ++ shown key F) (shown-cases _ f (λ es. es ≡ [])
-    (λ _. refl) (λ id c k e g. absurd (n.0 (ap (λ a. a.key) e)))) ∙ shown-none _ F n.1
+    (λ _. refl) (search rules)) ∙ shown-none _ F n.1
 
 -- ---- all that is shown is known, and in order
 
@@ -65,7 +66,8 @@ unfolding shown
 above-shown key id [] s = tt
 above-shown key id (f ∷ F) s =
     let rest = above-shown _ _ F s.1 in
-    shown-cases key f (λ es. Above id (keys_of (es ++ shown key F))) (λ _. rest) (λ j c k e g. (sym (ap (λ o. ordering_then o (symbol_id_cmp id j)) (equal_keys key)) ∙ ap (address_cmp (symbol_address _ id)) (sym e) ∙ s.0, rest))
+    shown-cases key f (λ es. Above id (keys_of (es ++ shown key F))) (λ _. rest)
+    (λ j c k e g. (search (rules, equal_keys), rest))
 
 pub shown-ordered : (key : Key) (F : List Fact) → IsRising F → IsOrdered symbol_id_cmp (shown key F)
 unfolding shown IsStrictlySortedBy
@@ -73,7 +75,7 @@ shown-ordered key [] r = tt
 shown-ordered key (f ∷ F) r =
     let rest = shown-ordered _ F r.1 in
     shown-cases key f (λ es. IsOrdered symbol_id_cmp (es ++ shown key F)) (λ _. rest)
-    (λ id c k e g. (above-shown _ id F (subst (λ a. StandAfter a F) e r.0), rest))
+    (λ id c k e g. (search (rules, above-shown), rest))
 
 -- ---- and it is the value at the addresses
 
@@ -83,25 +85,16 @@ unfolding shown
 shown-at key id [] r = fact_at-nil _
 shown-at key id (f ∷ F) r =
     let a = symbol_address key id in
-    let rest = shown-at _ _ F r.1 in
+    let rest = shown-at key id F r.1 in
     shown-cases key f (λ es. fact_at (f ∷ F) a
     ≡ symbol_fact key id (value_at symbol_id_cmp (es ++ shown key F) id))
     (λ n. fact_at-elsewhere f F a (not_same _ a (n _)) ∙ rest)
-    (λ j c k e g.
-    let looked =
-    λ (b : Bool). symbol_fact key id
-    (cond b (Some c) (value_at symbol_id_cmp (shown key F) id)) in
-    elim (cases_Bool (is_eq _)) [
+    (λ j c k e g. elim (cases_Bool (is_eq (symbol_id_cmp id j))) [
       | inl t ↦
           let p = symbol_id_place id j ((Equal-is (symbol_id_cmp id j)).0 t) in
-          subst (λ x. fact_at (f ∷ F) x ≡ Some f) (e ∙ ap (symbol_address _) (sym p))
-          (fact_at-here f F (fact_at-after _ F r.0))
-          ∙ g ∙ ap (λ i. symbol_fact key i (Some c)) (sym p) ∙ ap looked (sym t)
+          rw (t, p, ← e, fact_at-here f F (fact_at-after _ F r.0)) g
       | inr t ↦
-          fact_at-elsewhere f F a
-          (not_same _ a (λ q.
-          false≢true (sym t
+          rw t (fact_at-elsewhere f F a (not_same _ a (λ q. false≢true (sym t
           ∙ ap (λ x. is_eq (symbol_id_cmp id x)) (same_id key key j id (sym e ∙ q))
-          ∙ symbol_id_itself id)))
-          ∙ rest ∙ ap looked (sym t)
+          ∙ symbol_id_itself id))) ∙ rest)
     ])

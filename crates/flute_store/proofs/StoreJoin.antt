@@ -153,25 +153,23 @@ module _ {n : ℕ} where
       each-append (Apart a) (info_cell_facts _ x.info) (symbols_facts _ x.symbols)
       (elsewhere-info a _ (λ p. h (ap (λ b. b.key) p)) x.info)
       (each-flat_map (Apart a) (entry_facts _)
-      (λ e. elsewhere-symbol a key e.0 (λ p. h (ap (λ (b : Address). b.key) p)) e.1) x.symbols)
+      (λ e. elsewhere-symbol a key e.0 (search rules) e.1) x.symbols)
 
   -- ---- a session
   pub objects_apart : (a : Address) (e : ObjectName × Object n) → (a.key.object ≡ e.0 → ⊥)
       → Elsewhere a (in_session a.key.session e)
-  objects_apart a e h = elsewhere-object a (key_in _ _) (λ p. h (sym (ap (λ k. k.object) p))) e.1
+  objects_apart a e h = elsewhere-object a (key_in _ _) (search rules) e.1
 
   session-join : (a : Address) (v w : Objects n) → OrderedSession v →
       OrderedSession w → fact_at (session_facts a.key.session (session_join v w)) a ≡ joined a
       (fact_at (session_facts a.key.session v) a) (fact_at (session_facts a.key.session w) a)
-  session-join a v w p q = at-map_join object_keys _ a a.key.object
-      (objects_apart a) _ (object-join _ _)
-      (record { first = p.ordered; second = q.ordered; first_each = p.each; second_each = q.each })
+  session-join a v w p q = at-map_join object_keys _ a a.key.object (objects_apart a) _
+      (object-join _ _) (search rules)
 
   elsewhere-session : (a : Address) (session : Session) → (session ≡ a.key.session → ⊥)
       → (objects : Objects n) → Elsewhere a (session_facts session objects)
   elsewhere-session a session h objects = each-flat_map (Apart a) (in_session _)
-      (λ e. elsewhere-object a (key_in session e.0) (λ p. h (ap (λ (k : Key). k.session) p)) e.1)
-      objects
+      (λ e. elsewhere-object a (key_in session e.0) (search rules) e.1) objects
 
   -- ---- a store
   pub sessions_apart : (a : Address) (e : Session × Objects n)
@@ -180,9 +178,8 @@ module _ {n : ℕ} where
 
   store-join : (v w : Sessions n) → OrderedStore v → OrderedStore w → (a : Address) → fact_at
       (content (store_join v w)) a ≡ joined a (fact_at (content v) a) (fact_at (content w) a)
-  store-join v w p q a = at-map_join session_keys _ a a.key.session (sessions_apart a)
-      _ (session-join a)
-      (record { first = p.ordered; second = q.ordered; first_each = p.each; second_each = q.each })
+  store-join v w p q a = at-map_join session_keys _ a a.key.session (sessions_apart a) _
+      (session-join a) (search rules)
 
   -- the content of a join has the values of both contents together
   pub content-join : (v w : Sessions n) → OrderedStore v

@@ -2,7 +2,7 @@
 use Rattle.flute_store.proofs.Maps.{Entry}
 use Rattle.std.proofs.Common.{rules}
 use Rattle.std.proofs.Common.{◌≡◌, ◌≢◌, ℕ, List, false, Option, Some, None, refl, sym, ap, ◌∙◌}
-use Rattle.std.proofs.Common.{◌↔◌, ◌+◌, length, arith}
+use Rattle.std.proofs.Common.{◌↔◌, ◌+◌, length}
 use Rattle.std.specs.Ordering.{eq_by_cmp}
 use Rattle.flute_store.specs.GapsLeft.{GapsLeft}
 use Rattle.std.proofs.lemmas.Cmp.{eq_by_cmp_equiv}
@@ -23,14 +23,16 @@ ids_told F key x t id = by_found _ refl
     by_found : (found : Option (Cell (List ℕ))) → value_at symbol_id_cmp x.symbols id ≡ found
         → Contains (keys_of x.symbols) id ↔ (fact_at F (symbol_address key id) ≢ None)
     by_found None e = (
-      λ c. absurd (false≢true (rw e at
-          (IsSome-lookup_from_Contains (eq_by_cmp_equiv symbol_id_total) id x.symbols c))),
-      λ h. absurd (h (t.each id ∙ ap (symbol_fact key id) e)),
+      λ c. absurd (false≢true
+          (rw e at (IsSome-lookup_from_Contains (eq_by_cmp_equiv symbol_id_total) id x.symbols c))),
+      λ
+          h. absurd (h (t.each id ∙ ap (symbol_fact key id) e)),
     )
     by_found (Some c) e =
         let known = each-value_at symbol_id_cmp IsKnown _ id c t.object.symbols_are.each e in (
           λ _ z. known-fact key id c known (sym (t.each id ∙ ap (symbol_fact key id) e) ∙ z),
-          λ _. Contains-keys_from_lookup {eq = eq_by_cmp symbol_id_cmp}
+          λ _.
+              Contains-keys_from_lookup {eq = eq_by_cmp symbol_id_cmp}
               (λ p q t. symbol_id_place p q ((Equal-is _).0 t)) id x.symbols (rw e),
         )
 
@@ -79,4 +81,16 @@ pub gives-gaps : {n : ℕ} {F : List Fact} {key : Key} {x : Object n} {info : In
     {held : List Entry} (g : GapsLeft) → ToldGaps F key x info held g.gaps
     → Begins info held g → GivesGaps F key g
 gives-gaps {n} {F} {key} {x} {info} {held} g t b =
-    let told = t.told in let k = b.held_is ∙ ap keys_of t.held_is in record { info = info; information = told-information F _ x _ told t.info_is; gaps_are = rw (t.gaps_are, t.held_is, ← wants-told F key x info told); rising = rw k told.object.symbols_are.ordered; held_are = rw k (ids_told F key x told); begun_is = b.begun_is; blocks_are = b.blocks_are; ended_is = b.ended_is; ticks_are = b.ticks_are; bound_is = let c = b.bound_is in omega (arith, told.count, ap (λ (s : List Entry). length s) t.held_is) }
+    let told = t.told in
+    let k = b.held_is ∙ ap keys_of t.held_is in record {
+      info = info;
+      information = told-information F _ x _ told t.info_is;
+      gaps_are = rw (t.gaps_are, t.held_is, ← wants-told F key x info told);
+      rising = rw k told.object.symbols_are.ordered;
+      held_are = rw k (ids_told F key x told);
+      begun_is = b.begun_is;
+      blocks_are = b.blocks_are;
+      ended_is = b.ended_is;
+      ticks_are = b.ticks_are;
+      bound_is = rw (b.bound_is, told.count, t.held_is) refl;
+    }

@@ -60,7 +60,8 @@ module _ (w : PartitionScan) (held : List Entry) (next : Option Held)
   by_run Passed None e h q = (step-pass _ p (told _ _ e), e, refl)
   by_run Fitting None e h q = (step-take _ p (told _ _ e) (no-run _ _ tt h), e, refl)
   by_run (Wanted r) None e h q = (step-want _ r p (told _ _ e) h, (r, e, refl))
-  by_run NotHeld None e h q = rw (until-same w.sbn _ held next n) (gap-missing _ p (no-run _ NotHeld tt h) e)
+  by_run NotHeld None e h q = rw (until-same w.sbn _ held next n)
+      (gap-missing _ p (no-run _ NotHeld tt h) e)
 
   -- a turn, given the next held symbol
   pub turn-turns : IsPlace (turn_of w next).1 → TurnsTo (walk_of w held) (turn_of w next).0
@@ -142,6 +143,6 @@ keeps-step u v w t s k h =
       walk = h.walk;
       gaps_are = ap runs l.left_is ∙ k.gaps_are;
       bound_is = h.bound_is ∙ k.bound_is;
-      onward = (let a = k.onward in let b = ticked v w t s h in omega (arith, a));
+      onward = search (rules, ticked);
       ahead = ahead-trans _ (walk_in v) _ k.ahead l.ahead;
     }

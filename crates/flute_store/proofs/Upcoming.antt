@@ -1,7 +1,7 @@
 -- What comes next on a walk, and what is left then (specs/PartitionScan).
 use Rattle.flute_store.proofs.Maps.{Entry}
 use Rattle.std.proofs.Common.{rules, ◌≡◌, ◌≢◌, ℕ, ◌+◌, ◌<◌, ◌≤◌, cond, List, [], ◌∷◌, ◌++◌, length}
-use Rattle.std.proofs.Common.{drop, Option, Some, None, refl, sym, ap, ◌∙◌, subst, arith}
+use Rattle.std.proofs.Common.{drop, Option, Some, None, refl, sym, ap, subst, arith}
 use Rattle.std.proofs.Common.{append_assoc, ◌-◌}
 use Rattle.flute_store.proofs.Lookups.{Above, Later, above-before, above-block, later-blocks}
 use Rattle.flute_store.proofs.Lookups.{blocks_from-next}
@@ -113,7 +113,7 @@ ahead-trans u v w a b = record {
   passed = a.passed ++ b.passed;
   held_is = rw (a.held_is, b.held_is, ← append_assoc a.passed b.passed _);
   onward = omega arith;
-  partition_is = b.partition_is ∙ a.partition_is;
+  partition_is = search rules;
 }
 
 pub ahead-first : (w x : Walk) (e : Entry) (es : List Entry) → w.held ≡ e ∷ es
@@ -168,8 +168,12 @@ taken-left = search (rules, inside-less, wanted-here, others-above, symbols-firs
 pub taken-keeps : (run : Option Gap) (w : Walk) (why : Option Reason) → IsWalk w → AtHere w why
     → EndsBefore w.sbn (w.esi + 1) run → pending run ++ left (taken run w) ≡ pending w.run ++ left w
     → Keeps w (taken run w)
-taken-keeps run w why p t r e =
-    record { walk = taken-walk _ w _ p t r; left_is = e; fewer = rw t.held (omega arith); ahead = ahead-first w _ t.first _ t.held refl refl refl }
+taken-keeps run w why p t r e = record {
+  walk = taken-walk _ w _ p t r;
+  left_is = e;
+  fewer = rw t.held (omega arith);
+  ahead = search (rules, ahead-first);
+}
 
 pub step-take : (w : Walk) → IsWalk w → AtHere w None → w.run ≡ None → Keeps w (after_take w)
 step-take w p t r = taken-keeps _ w _ p t (rw r tt)

@@ -12,7 +12,7 @@ use Common.{ids, IsHeld, Whole, object, want, wants, runs, gaps}
 pub Whole-same : (F G : List Fact) (key : Key) (info : Information) → Same F G → Whole F key info
     → Whole G key info
 Whole-same F G key info h w = record {
-  information = sym (h.each _) ∙ w.information;
+  information = search rules;
   each = λ id m. let held = w.each _ m in record {
     bytes = held.bytes;
     value = sym (h.each _) ∙ held.value;
@@ -39,8 +39,11 @@ gaps-same F G key info h = rw (wants-same F G key info h)
 filter_map-none : (f : SymbolId → Option (SymbolId × Reason)) (xs : List SymbolId)
     → ((x : SymbolId) → Contains xs x → f x ≡ None) → filter_map f xs ≡ []
 filter_map-none f [] h = refl
-filter_map-none f (x ∷ xs) h =
-    rw (h x (0, omega arith, refl), filter_map-none f xs (λ y c. h y (suc c.0, omega (arith, c.1), c.2)))
+filter_map-none f (x ∷ xs) h = rw (
+  h x (0, omega arith, refl),
+  filter_map-none f xs
+      (λ y c. h y (suc c.0, omega (arith, c.1), c.2)),
+)
 
 none-filter_map_head : (o : Option (SymbolId × Reason)) (ys : List (SymbolId × Reason))
     → cons_option o ys ≡ [] → (o ≡ None) × (ys ≡ [])
@@ -60,15 +63,11 @@ map_none = grind arith
 held-from : (F : List Fact) (key : Key) (info : Information) (id : SymbolId) (o : Option Fact)
     → fact_at F (symbol_address key id) ≡ o → want info id o ≡ None → IsHeld F key info id
 held-from F key info id (Some (Symbol k i b)) e w =
-    let p =
-    fact_at-address F _ _ e in
+    let p = fact_at-address F _ _ e in
     let q = ap (λ (a : Address). a.key) p in
-    let r : i ≡ id = let s = ap (λ a. a.part) p in cc in
-    record {
-      bytes = b;
-      value = e ∙ (λ t. Some (Symbol (q t) (r t) b));
-      fitting = grind arith;
-    }
+    let r : i ≡ id =
+    let s = ap (λ a. a.part) p in
+    cc in record { bytes = b; value = search rules; fitting = grind arith }
 held-from F key info id o e w = cc
 
 want-held : (F : List Fact) (key : Key) (info : Information) (id : SymbolId) → IsHeld F key info id
@@ -79,11 +78,14 @@ want-held = search rules
 pub gapless-whole : (F : List Fact) (key : Key) (info : Information)
     → fact_at F (info_address key) ≡ Some (Info key info) → gaps F key info ≡ [] → Whole F key info
 unfolding wants
-gapless-whole F key info e g =
-    record { information = e; each = λ id c. held-from F _ _ _ _ refl (map_none (λ reason. (id, reason)) _ (none-filter_map (λ id. option_map (λ reason. (id, reason)) _) (ids _) (sym (runs-listed _) ∙ ap (flat_map _) g) c.0 _ c.1 c.2)) }
+gapless-whole F key info e g = record {
+  information = e;
+  each = λ id c. held-from F _ _ _ _ refl (map_none (λ reason. (id, reason)) _ (none-filter_map
+      (λ id. option_map (λ reason. (id, reason)) _) (ids _)
+      (sym (runs-listed _) ∙ ap (flat_map _) g) c.0 _ c.1 c.2));
+}
 
 pub whole-gapless : (F : List Fact) (key : Key) (info : Information) → Whole F key info
     → gaps F key info ≡ []
 unfolding wants runs
-whole-gapless F key info w =
-    rw (filter_map-none (λ id. option_map (λ reason. (id, reason)) (want info _ (fact_at F (symbol_address _ id)))) (ids _) (λ id c. ap (option_map (λ reason. (id, reason))) (want-held F key _ id (w.each _ c))))
+whole-gapless F key info w = search (rules, filter_map-none, ids, want-held)

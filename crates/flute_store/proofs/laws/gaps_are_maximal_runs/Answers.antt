@@ -1,3 +1,4 @@
+use Rattle.std.proofs.Common.{rules}
 use Rattle.flute_store.proofs.Runs.{runs-are, runs-listed, runs-unique}
 use Rattle.flute_store.proofs.WholeObjects.{gapless-whole, whole-gapless}
 use Rattle.flute_store.proofs.laws.gaps_are_maximal_runs.Goals as goal
@@ -6,6 +7,6 @@ pub returns : goal.returns
 returns c = record {
   wants = λ F key info. runs-listed _;
   runs = λ F key info. runs-are _;
-  unique = λ F key info others e s. rw (← runs-unique others s, e);
+  unique = search (rules, runs-unique);
   whole = λ F key info h. (whole-gapless F _ _, gapless-whole F _ _ h);
 }

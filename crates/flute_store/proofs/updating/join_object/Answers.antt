@@ -1,4 +1,5 @@
 -- join_object: the joined session, at a held and at a new object, and each refusal.
+use Rattle.std.proofs.Common.{rules}
 use Rattle.std.proofs.Common.{◌≡◌, ◌<◌, ℕ, [], length, bytes_eq, sym, ap, ◌∙◌, lit<, subst, arith}
 use Rattle.std.proofs.Common.{inl, inr}
 use Rattle.flute_store.proofs.Common
@@ -48,7 +49,7 @@ returns-in-Some-clause-room g c = λ n. held-sound (objects_joined g.row.SYMBOLS
 
 pub returns-then-len-clause-full : goal.returns-then-len-clause-full
 returns-then-len-clause-full g c = λ _. inl (full-beyond (objects_joined _) _ _ _ _
-    (sym c.in_default.ensures.value) (sym c.len.ensures.value ∙ c.if-len.true))
+    (sym c.in_default.ensures.value) (search rules))
 
 made : (n : ℕ) (x : Object n) (w : Object n) → x.info ≡ Absent → x.symbols ≡ []
     → object_join x w ≡ w
@@ -62,16 +63,31 @@ made n x w p q = (λ i. record {
 
 pub returns-in_err-join_update-clause-full : goal.returns-in_err-join_update-clause-full
 returns-in_err-join_update-clause-full g c =
-    let refused = err_from_is_err_and c.from_residual.result c.from_residual.ensures.1 in rw (refused.1, refused.2) (λ e. inr (new-beyond (objects_joined _) _ _ _ ObjectBeyond c.in_default.ensures.ordered (sym c.in_default.ensures.value) (subst ObjectBeyond (made _ _ (update_object c.args.update.now) (λ _. Absent) c.new.ensures) (c.in_err-join_update.ensures.full e))))
+    let refused = err_from_is_err_and c.from_residual.result c.from_residual.ensures.1 in
+    rw (refused.1, refused.2) (λ e. inr (new-beyond (objects_joined _) _ _ _ ObjectBeyond
+    c.in_default.ensures.ordered (sym c.in_default.ensures.value) (subst ObjectBeyond
+    (made _ _ (update_object c.args.update.now) (λ _. Absent) c.new.ensures)
+    (c.in_err-join_update.ensures.full e))))
 
 pub returns-in_err-join_update-clause-room : goal.returns-in_err-join_update-clause-room
 returns-in_err-join_update-clause-room g c =
-    let refused = err_from_is_err_and c.from_residual.result c.from_residual.ensures.1 in let room : length c.args.objects.now < g.row.OBJECTS = omega arith in rw (refused.1, refused.2) (λ n. new-sound (objects_joined _) (has-room c.args.objects.now c.in_default.ensures.ordered c.requires.each room) _ _ (sym c.in_default.ensures.value) room (subst IsObject (made _ _ (update_object c.args.update.now) (λ _. Absent) c.new.ensures) (c.in_err-join_update.ensures.room n)))
+    let refused = err_from_is_err_and c.from_residual.result c.from_residual.ensures.1 in
+    let room : length c.args.objects.now < g.row.OBJECTS = omega arith in
+    rw (refused.1, refused.2) (λ n. new-sound (objects_joined _)
+    (has-room c.args.objects.now c.in_default.ensures.ordered c.requires.each room) _ _
+    (sym c.in_default.ensures.value) room (subst IsObject
+    (made _ _ (update_object c.args.update.now) (λ _. Absent) c.new.ensures)
+    (c.in_err-join_update.ensures.room n)))
 
 pub returns-clause-ok : goal.returns-clause-ok
-returns-clause-ok g c =
-    added_joins object_total (object_join_laws _) _ _ _ _ (sym c.in_default.ensures.value) _ (rw (c.in_ok-join_update.ensures.ok ∙ (made _ _ _ (λ _. Absent) c.new.ensures)) at c.add_new.ensures.ok)
+returns-clause-ok g c = added_joins object_total (object_join_laws _) _ _ _ _
+    (sym c.in_default.ensures.value) _ (rw
+    (c.in_ok-join_update.ensures.ok ∙ (made _ _ _ (λ _. Absent) c.new.ensures)) at
+    c.add_new.ensures.ok)
 
 pub returns-clause-room : goal.returns-clause-room
 returns-clause-room g c =
-    let room : length c.args.objects.now < g.row.OBJECTS = omega arith in λ n. new-sound (objects_joined _) (has-room _ c.in_default.ensures.ordered c.requires.each room) _ _ (sym c.in_default.ensures.value) room (subst IsObject (made _ _ _ (λ _. Absent) c.new.ensures) (c.in_ok-join_update.ensures.room (λ e. cc)))
+    let room : length c.args.objects.now < g.row.OBJECTS = omega arith in
+    λ n. new-sound (objects_joined _) (has-room _ c.in_default.ensures.ordered c.requires.each room)
+    _ _ (sym c.in_default.ensures.value) room (subst IsObject
+    (made _ _ _ (λ _. Absent) c.new.ensures) (c.in_ok-join_update.ensures.room (λ e. cc)))

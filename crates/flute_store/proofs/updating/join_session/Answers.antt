@@ -1,4 +1,5 @@
 -- join_session: the joined sessions, at a held and at a new session, and each refusal.
+use Rattle.std.proofs.Common.{rules}
 use Rattle.flute_store.proofs.Maps.{Objects}
 use Rattle.std.proofs.Common.{◌≡◌, ◌<◌, ℕ, [], ◌∷◌, length, sym, ap, ◌∙◌, lit<, subst, arith}
 use Rattle.std.proofs.Common.{inl, inr}
@@ -13,7 +14,9 @@ use Rattle.flute_store.proofs.updating.join_session.Goals as goal
 
 pub join_object-requires : goal.join_object-requires
 join_object-requires g c =
-    let sound = each-value_at session_cmp (IsSession _) c.args.sessions.now c.args.key.now.session c.in-Some.held.now c.requires.each (sym c.in-Some.ensures.value) in (lit< tt, (lit< tt, (sound.each, c.requires.update)))
+    let sound = each-value_at session_cmp (IsSession _) c.args.sessions.now c.args.key.now.session
+    c.in-Some.held.now c.requires.each (sym c.in-Some.ensures.value) in
+    (lit< tt, (lit< tt, (sound.each, c.requires.update)))
 
 pub returns-in-Some-clause-err : goal.returns-in-Some-clause-err
 returns-in-Some-clause-err g c = on_err_weaker c.join_object.result (λ p. ap
@@ -45,7 +48,7 @@ returns-in-Some-clause-room g c = λ n. held-sound (sessions_joined g.row.SYMBOL
 
 pub returns-then-len-clause-full : goal.returns-then-len-clause-full
 returns-then-len-clause-full g c = λ _. inl (full-beyond (sessions_joined _) _ _ _ _
-    (sym c.in_default.ensures.value) (sym c.len.ensures.value ∙ c.if-len.true))
+    (sym c.in_default.ensures.value) (search rules))
 
 made : (n : ℕ) (m w : Objects n) → m ≡ [] → session_join m w ≡ w
 made n m w p = rw (p, nothing_join object_cmp object_join w)
@@ -68,8 +71,9 @@ returns-in_err-join_object-clause-room g c =
     (made g.row.SYMBOLS _ _ c.new-objects.ensures) (c.in_err-join_object.ensures.room n)))
 
 pub returns-clause-ok : goal.returns-clause-ok
-returns-clause-ok g c =
-    added_joins session_total (session_laws _) _ _ _ _ (sym c.in_default.ensures.value) _ (rw (c.in_ok-join_object.ensures.ok ∙ made _ _ _ c.new-objects.ensures) at c.add_new.ensures.ok)
+returns-clause-ok g c = added_joins session_total (session_laws _) _ _ _ _
+    (sym c.in_default.ensures.value) _
+    (rw (c.in_ok-join_object.ensures.ok ∙ made _ _ _ c.new-objects.ensures) at c.add_new.ensures.ok)
 
 pub returns-clause-room : goal.returns-clause-room
 returns-clause-room g c =

@@ -12,7 +12,8 @@ returns-in-Some-Fitting c =
 
 pub loop-held-preserved-in-Some-Passed : goal.loop-held-preserved-in-Some-Passed
 loop-held-preserved-in-Some-Passed c = keeps-on _ _ _ c.loop-held.invariant (pass-keeps _ _
-    c.loop-held.invariant.walk c.loop-held.invariant.whole (rw (← c.in-Some-Passed.field-0-is) c.in-Some-Passed.ensures))
+    c.loop-held.invariant.walk c.loop-held.invariant.whole
+    (rw (← c.in-Some-Passed.field-0-is) c.in-Some-Passed.ensures))
 
 pub loop-held-preserved : goal.loop-held-preserved
 loop-held-preserved c = keeps-on _ _ _ c.loop-held.invariant

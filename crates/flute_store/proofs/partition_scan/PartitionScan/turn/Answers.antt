@@ -19,28 +19,27 @@ pub want-requires : goal.want-requires
 want-requires c = wanted-small _ _ c.requires _ (sym c.upcoming-upcoming.ensures ∙ c.in-Wanted.is)
 
 pub missing-requires-clause-some : goal.missing-requires-clause-some
-missing-requires-clause-some c =
-    (until-within _ _ c.requires (sym c.upcoming-upcoming.ensures ∙ c.in-NotHeld.is)).0
+missing-requires-clause-some c = (until-within _ _ c.requires (search rules)).0
 
 pub returns-in-End-clause-turn : goal.returns-in-End-clause-turn
-returns-in-End-clause-turn c = turn-at _ _ End (sym c.upcoming-upcoming.ensures ∙ c.in-End.is)
-    (ap (ended_run _) (sym c.upcoming-upcoming.ensures) ∙ sym c.ended_run.ensures ∙ c.in_default.is)
+returns-in-End-clause-turn c = turn-at _ _ End (search rules) (search rules)
 
 pub returns-in-BlockEnd-clause-turn : goal.returns-in-BlockEnd-clause-turn
-returns-in-BlockEnd-clause-turn c = rw (c.begin.ensures.block, turn-at _ _ BlockEnd (sym c.upcoming-upcoming.ensures ∙ c.in-BlockEnd.is) (ap (ended_run _) (sym c.upcoming-upcoming.ensures) ∙ sym c.ended_run.ensures ∙ c.in_default.is))
+returns-in-BlockEnd-clause-turn c = rw (
+  c.begin.ensures.block,
+  turn-at _ _ BlockEnd
+      (sym c.upcoming-upcoming.ensures ∙ c.in-BlockEnd.is) (search rules),
+)
 
 pub returns-in-BlockEnd-clause-place : goal.returns-in-BlockEnd-clause-place
 returns-in-BlockEnd-clause-place c =
     placed _ _ c.requires _ _ (returns-in-BlockEnd-clause-turn c) c.begin.ensures.longest
 
 pub returns-in-Passed-clause-turn : goal.returns-in-Passed-clause-turn
-returns-in-Passed-clause-turn c =
-    turn-at _ _ Passed (sym c.upcoming-upcoming.ensures ∙ c.in-Passed.is)
-    (ap (ended_run _) (sym c.upcoming-upcoming.ensures) ∙ sym c.ended_run.ensures ∙ c.in_default.is)
+returns-in-Passed-clause-turn c = turn-at _ _ Passed (search rules) (search rules)
 
 pub returns-in-Fitting-clause-turn : goal.returns-in-Fitting-clause-turn
-returns-in-Fitting-clause-turn c =
-    turn-at _ _ Fitting (sym c.upcoming-upcoming.ensures ∙ c.in-Fitting.is)
+returns-in-Fitting-clause-turn c = turn-at _ _ Fitting (search rules)
     (ap (ended_run _) (sym c.upcoming-upcoming.ensures) ∙ sym c.ended_run.ensures ∙ c.in_default.is)
 
 pub returns-in-Fitting-clause-place : goal.returns-in-Fitting-clause-place
@@ -48,7 +47,11 @@ returns-in-Fitting-clause-place c =
     placed _ _ c.requires _ _ (returns-in-Fitting-clause-turn c) c.requires.longest
 
 pub returns-in-Wanted-clause-turn : goal.returns-in-Wanted-clause-turn
-returns-in-Wanted-clause-turn c = rw (c.want.ensures, turn-at _ _ (Wanted _) (sym c.upcoming-upcoming.ensures ∙ c.in-Wanted.is) (ap (ended_run _) (sym c.upcoming-upcoming.ensures) ∙ sym c.ended_run.ensures ∙ c.in_default.is))
+returns-in-Wanted-clause-turn c = rw (
+  c.want.ensures,
+  turn-at _ _ (Wanted _)
+      (sym c.upcoming-upcoming.ensures ∙ c.in-Wanted.is) (search rules),
+)
 
 pub returns-in-Wanted-clause-place : goal.returns-in-Wanted-clause-place
 returns-in-Wanted-clause-place c = placed _ _ c.requires _ _ (returns-in-Wanted-clause-turn c)

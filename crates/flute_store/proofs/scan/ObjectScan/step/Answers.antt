@@ -27,7 +27,8 @@ returns-clause-step c = λ s next h q f. let step : Step _ s next c.turn-turn.re
       | in_default w ↦ search rules
       | in_default-2 w ↦ search rules
       | in_default-3 w ↦ search rules
-    ] in rw (passed ∙ ap (passed_at_end c.turn-turn.result) h) (stepped next c.turn-turn.result step _ f c.add_turn.ensures)
+    ] in rw (passed ∙ ap (passed_at_end c.turn-turn.result) h)
+    (stepped next c.turn-turn.result step _ f c.add_turn.ensures)
 
 pub returns-clause-blocks : goal.returns-clause-blocks
 returns-clause-blocks c = begins-blocks c.args.held.now c.add_turn.new.self c.self.view_is

@@ -13,15 +13,22 @@ invariant_of-self = search rules
 
 pub returns-clause-ok : goal.returns-clause-ok
 returns-clause-ok g c =
-    let join = content-join _ _ (ordered-store _ _ _ c.self.invariant) (ordered-store _ _ _ c.other.invariant) in rw (← c.self.view_is, ← c.other.view_is) (on_ok_weaker c.join_from.result (λ p. subst (λ m. Same (content m) (content c.self.inside.sessions ++ content c.other.inside.sessions)) (sym p) join) c.join_from.ensures.ok)
+    let join = content-join _ _ (ordered-store _ _ _ c.self.invariant)
+    (ordered-store _ _ _ c.other.invariant) in rw (← c.self.view_is, ← c.other.view_is)
+    (on_ok_weaker
+    c.join_from.result (λ p. subst
+    (λ m. Same (content m) (content c.self.inside.sessions ++ content c.other.inside.sessions))
+    (sym p) join) c.join_from.ensures.ok)
 
 pub returns-clause-above : goal.returns-clause-above
-returns-clause-above g c =
-    rw (← c.self.view_is) (content-below _ _ (ordered-store _ _ _ c.self.invariant) (ordered-store _ _ _ (invariant_of-self g c)) c.join_from.ensures.above_old)
+returns-clause-above g c = rw (← c.self.view_is) (content-below _ _
+    (ordered-store _ _ _ c.self.invariant) (ordered-store _ _ _ (invariant_of-self g c))
+    c.join_from.ensures.above_old)
 
 pub returns-clause-below : goal.returns-clause-below
-returns-clause-below g c =
-    rw (← c.self.view_is, ← c.other.view_is) (content-below_join _ _ _ (ordered-store _ _ _ (invariant_of-self g c)) (ordered-store _ _ _ c.self.invariant) (ordered-store _ _ _ c.other.invariant) c.join_from.ensures.below_join)
+returns-clause-below g c = rw (← c.self.view_is, ← c.other.view_is) (content-below_join _ _ _
+    (ordered-store _ _ _ (invariant_of-self g c)) (ordered-store _ _ _ c.self.invariant)
+    (ordered-store _ _ _ c.other.invariant) c.join_from.ensures.below_join)
 
 pub returns-clause-full : goal.returns-clause-full
 returns-clause-full g c =

@@ -20,9 +20,18 @@ returns-after-matches g c =
       part = c.in-Info.is i;
     } in
     let known : is_some (fact_at (content c.self.inside.sessions) c.args.address.now) ≡ is_known
-    c.in-Some-get.object.now.info = rw (there, of_info c.self.invariant c.args.address.now.key (sym c.in-Some.ensures.value) (sym c.in-Some-get.ensures.value)) in rw (← c.self.view_is) (elim c.match-matches.branch [
+    c.in-Some-get.object.now.info = rw (
+      there,
+      of_info c.self.invariant c.args.address.now.key
+          (sym c.in-Some.ensures.value) (sym c.in-Some-get.ensures.value),
+    ) in rw (← c.self.view_is) (elim
+    c.match-matches.branch [
       | in-Absent w ↦ ap not w.matches-is ∙ sym (known ∙ ap is_known w.in-Absent.is)
-      | in_default-matches w ↦ rw (w.matches-is, ← known ∙ known-is c.in-Some-get.object.now.info w.in_default-matches.not-Absent)
+      | in_default-matches w ↦ rw (
+        w.matches-is,
+        ← known ∙ known-is c.in-Some-get.object.now.info
+            w.in_default-matches.not-Absent,
+      )
     ])
 
 pub returns-in-Symbol : goal.returns-in-Symbol

@@ -1,3 +1,4 @@
+use Rattle.std.proofs.Common.{rules}
 use Rattle.flute_store.proofs.ToldObjects.{gives-gaps}
 use Rattle.flute_store.proofs.store.Store.gaps.Goals as goal
 
@@ -7,11 +8,4 @@ returns-in-One g c = gives-gaps _ (record {
   info_is = c.in-One.is;
   held_is = c.iter.ensures.rest;
   gaps_are = c.new.ensures.gaps;
-}) (record {
-  held_is = c.new.ensures.held;
-  begun_is = c.new.ensures.begun;
-  blocks_are = c.new.ensures.total;
-  ended_is = c.new.ensures.ended;
-  ticks_are = c.new.ensures.ticks;
-  bound_is = c.new.ensures.bound;
-})
+}) (search rules)

@@ -1,10 +1,11 @@
+use Rattle.std.proofs.Common.{rules}
 use Rattle.flute_store.proofs.{StoreJoin.{ordered-store}, Counting.{not_over}}
 use Rattle.flute_store.proofs.Rises.{content-rises}
 use Rattle.flute_store.proofs.store.Store.keeps_order_and_limits.Goals as goal
 
 pub returns-clause-rising : goal.returns-clause-rising
 returns-clause-rising g c = rw (← c.self.view_is) (content-rises c.self.inside.sessions
-    (ordered-store _ g.row.OBJECTS _ c.self.invariant))
+    (search (rules, ordered-store)))
 
 pub returns-clause-within : goal.returns-clause-within
 returns-clause-within g c = rw (← c.self.view_is)

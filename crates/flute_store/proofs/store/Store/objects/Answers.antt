@@ -1,3 +1,4 @@
+use Rattle.std.proofs.Common.{rules}
 use Rattle.flute_store.proofs.{StoreJoin.{ordered-store}, KeyLists.{keys_rise, keys_held}}
 use Rattle.flute_store.proofs.HeldObjects.{have-objects}
 use Rattle.flute_store.proofs.store.Store.objects.Goals as goal
@@ -8,7 +9,7 @@ new-objects-requires g c =
 
 pub returns-clause-rising : goal.returns-clause-rising
 returns-clause-rising g c = rw (c.new-objects.ensures, c.iter.ensures.rest) (keys_rise
-    c.self.inside.sessions (ordered-store _ g.row.OBJECTS _ c.self.invariant))
+    c.self.inside.sessions (search (rules, ordered-store)))
 
 pub returns-clause-held : goal.returns-clause-held
 returns-clause-held g c = rw (c.new-objects.ensures, c.iter.ensures.rest, ← c.self.view_is)

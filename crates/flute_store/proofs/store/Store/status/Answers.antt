@@ -35,5 +35,11 @@ loop-gap-preserved g c =
     )
 
 pub returns : goal.returns
-returns g c =
-    rw c.status.ensures (store-status (record { told = c.in-Some.ensures; info_is = c.in-One.is; held_is = c.iter.ensures.rest; gaps_are = c.new-gaps.ensures.gaps }) c.loop-gap.wanted (counts-all _ _ (rw c.in_default-next.ensures.steps.0 at c.loop-gap.invariant.1)) _ c.length.ensures.value)
+returns g c = rw c.status.ensures (store-status (record {
+  told = c.in-Some.ensures;
+  info_is = c.in-One.is;
+  held_is = c.iter.ensures.rest;
+  gaps_are = c.new-gaps.ensures.gaps;
+}) c.loop-gap.wanted
+    (counts-all _ _ (rw c.in_default-next.ensures.steps.0 at c.loop-gap.invariant.1)) _
+    c.length.ensures.value)

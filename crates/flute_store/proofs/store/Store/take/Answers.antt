@@ -18,8 +18,9 @@ pub returns-in-Err-clause-held : goal.returns-in-Err-clause-held
 returns-in-Err-clause-held g c = λ p s h. let e = (c.in-Err.ensures.packet p).1 s in cc
 
 pub returns-in-Ok-take_packet-clause-ok : goal.returns-in-Ok-take_packet-clause-ok
-returns-in-Ok-take_packet-clause-ok g c =
-    rw (facts-Spells c.args.sender c.args.datagram.now _ c.in-Ok.ensures.spelled) c.in-Ok-take_packet.ensures.ok
+returns-in-Ok-take_packet-clause-ok g c = rw
+    (facts-Spells c.args.sender c.args.datagram.now _ c.in-Ok.ensures.spelled)
+    c.in-Ok-take_packet.ensures.ok
 
 pub returns-in-Ok-take_packet-clause-key : goal.returns-in-Ok-take_packet-clause-key
 returns-in-Ok-take_packet-clause-key g c =
@@ -28,25 +29,32 @@ returns-in-Ok-take_packet-clause-key g c =
     rw read cc
 
 pub returns-in-Ok-take_packet-clause-number : goal.returns-in-Ok-take_packet-clause-number
-returns-in-Ok-take_packet-clause-number g c =
-    rw (facts-Spells c.args.sender c.args.datagram.now _ c.in-Ok.ensures.spelled) c.in-Ok-take_packet.ensures.number
+returns-in-Ok-take_packet-clause-number g c = rw
+    (facts-Spells c.args.sender c.args.datagram.now _ c.in-Ok.ensures.spelled)
+    c.in-Ok-take_packet.ensures.number
 
 pub returns-in-Ok-take_packet-clause-full : goal.returns-in-Ok-take_packet-clause-full
-returns-in-Ok-take_packet-clause-full g c =
-    rw (facts-Spells c.args.sender c.args.datagram.now _ c.in-Ok.ensures.spelled) (not_full _ _ _ _ _ c.in-Ok-take_packet.ensures.full)
+returns-in-Ok-take_packet-clause-full g c = rw
+    (facts-Spells c.args.sender c.args.datagram.now _ c.in-Ok.ensures.spelled)
+    (not_full _ _ _ _ _ c.in-Ok-take_packet.ensures.full)
 
 pub returns-in-Err-Full-clause-full : goal.returns-in-Err-Full-clause-full
 returns-in-Err-Full-clause-full g c =
-    let full = c.in-Err-Full.ensures.full.0 (ap Err c.in-Err-Full.field-0-is) in rw (facts-Spells c.args.sender c.args.datagram.now _ c.in-Ok.ensures.spelled) (λ e. full, λ over. refl)
+    let full = c.in-Err-Full.ensures.full.0 (ap Err c.in-Err-Full.field-0-is) in
+    rw (facts-Spells c.args.sender c.args.datagram.now _ c.in-Ok.ensures.spelled)
+    (λ e. full, λ over. refl)
 
 pub returns-in-Err-Full-clause-held : goal.returns-in-Err-Full-clause-held
-returns-in-Err-Full-clause-held g c =
-    rw (facts-Spells c.args.sender c.args.datagram.now _ c.in-Ok.ensures.spelled) (λ p s h. let e = c.in-Err-Full.ensures.held h in cc)
+returns-in-Err-Full-clause-held g c = rw
+    (facts-Spells c.args.sender c.args.datagram.now _ c.in-Ok.ensures.spelled)
+    (λ p s h. let e = c.in-Err-Full.ensures.held h in cc)
 
 pub returns-in-Err-OutOfMemory-clause-full : goal.returns-in-Err-OutOfMemory-clause-full
-returns-in-Err-OutOfMemory-clause-full g c =
-    rw (facts-Spells c.args.sender c.args.datagram.now _ c.in-Ok.ensures.spelled) (λ e. cc, λ over. let full = c.in-Err-OutOfMemory.ensures.full.1 over in cc)
+returns-in-Err-OutOfMemory-clause-full g c = rw
+    (facts-Spells c.args.sender c.args.datagram.now _ c.in-Ok.ensures.spelled)
+    (λ e. cc, λ over. let full = c.in-Err-OutOfMemory.ensures.full.1 over in cc)
 
 pub returns-in-Err-OutOfMemory-clause-held : goal.returns-in-Err-OutOfMemory-clause-held
-returns-in-Err-OutOfMemory-clause-held g c =
-    rw (facts-Spells c.args.sender c.args.datagram.now _ c.in-Ok.ensures.spelled) (λ p s h. let e = c.in-Err-OutOfMemory.ensures.held h in cc)
+returns-in-Err-OutOfMemory-clause-held g c = rw
+    (facts-Spells c.args.sender c.args.datagram.now _ c.in-Ok.ensures.spelled)
+    (λ p s h. let e = c.in-Err-OutOfMemory.ensures.held h in cc)
