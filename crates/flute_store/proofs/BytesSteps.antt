@@ -20,7 +20,7 @@ use Rattle.flute_join.specs.declared.cell.Cell.TheVariants.{Conflict}
 use Rattle.flute_store.specs.{BytesLeft.{GivesBytes}, Wanted.{want_cell}}
 use Rattle.flute_store.proofs.Common
 use Common.{Cell, One, Information, IsValid, ids, symbol_id, Key}
-use Common.{SymbolId, Fact, Reason, Gap, Object, End, BlockEnd, Fitting, Wanted, HeldScan}
+use Common.{SymbolId, Fact, Reason, Gap, Object, End, BlockEnd, Wanted, HeldScan}
 use Common.{Turn, Whole, object, value_bytes, runs, gaps, symbol_fact, IsTold, wanted}
 use Common.{Walk, at_start, left, all_left, gaps_left, IsWalk, after_pass}
 use Common.{after_take, after_begin, upcoming_of, Keeps, walk_in, bound, IsHeldScan, Turns}
@@ -82,7 +82,7 @@ no-rest [] b h = h
 no-rest (x ∷ a) b h = absurd (not_cons_nil x _ h)
 
 no-wanted : (v : Walk) (r : Reason) → IsWalk v → all_left v ≡ [] → upcoming_of v ≡ Wanted r → ⊥
-no-wanted v r p h e = not_cons_nil (here v, r) (left _)
+no-wanted v r p h e = not_cons_nil (here v, r) _
     (sym (taken-left None v _ p (told v _ e)) ∙ no-rest _ _ h)
 
 -- what a turn gives if nothing is wanted
@@ -101,12 +101,12 @@ same-bytes = search rules
 pub pass-keeps : (v w : HeldScan) → IsHeldScan v → all_left (walk_in v) ≡ []
     → Turns v (Some Turn.Passed) w → KeepsBytes v w
 pass-keeps v w p h s = same-bytes v w s.turns.0 s.walk s.bound_is s.ticks h
-    (ap bytes_left s.turns.2 ∙ pass-bytes _ p.walk (told (walk_in v) _ s.turns.1))
+    (ap bytes_left s.turns.2 ∙ pass-bytes _ p.walk (told _ _ s.turns.1))
 
 pub begin-keeps : (v w : HeldScan) → IsHeldScan v → all_left (walk_in v) ≡ [] → Turns v None w
     → KeepsBytes v w
 begin-keeps v w p h s = same-bytes v w s.turns.0 s.walk s.bound_is s.ticks h
-    (ap bytes_left s.turns.2 ∙ begin-bytes _ p.walk (told (walk_in v) _ s.turns.1))
+    (ap bytes_left s.turns.2 ∙ begin-bytes _ p.walk (told _ _ s.turns.1))
 
 pub keeps-on : (u v w : HeldScan) → KeepsBytes u v → KeepsBytes v w → KeepsBytes u w
 keeps-on = search rules
@@ -117,12 +117,12 @@ pub gives-first : (u v w : HeldScan) {e : Entry} {es : List Entry} (value : Opti
     (e.1 ≡ Conflict) (λ bytes. (e.1 ≡ One bytes.now) × HasSymbolSize bytes.now) → GivesBytes u value
     w
 gives-first u v w {e} {es} None k h s m =
-    let t = told (walk_in v) Fitting s.turns.1 in
+    let t = told (walk_in v) _ s.turns.1 in
     let f : t.first ≡ e =
     let held = sym t.held ∙ h in
     cc in
     let at = here (walk_in v) in
-    let why = ap (λ (x : Entry). want_cell v.walk.partition at (Some x.1)) f ∙ ap
+    let why = ap (λ x. want_cell v.walk.partition at (Some x.1)) f ∙ ap
     (λ c. want_cell v.walk.partition at (Some c)) m in absurd cc
 gives-first u v w {e} {es} (Some bytes) k h s m =
     let t = told (walk_in v) _ s.turns.1 in
@@ -174,7 +174,7 @@ pub record Cuts (left x more : List ℕ) (n : ℕ) (b : List ℕ) : Type 0 where
 cut-left : (w : List ℕ) {all left x more b : List ℕ} {n : ℕ} → all ≡ w ++ take n left
     → Cuts left x more n b → all ≡ (w ++ b) ++ take (n - length b) more
 cut-left w {all} {left} {x} {more} {b} {n} h c = rw
-    (h, c.left_is, take-both n x more, ← c.bytes_are, ← append_assoc w b (take _ more))
+    (h, c.left_is, take-both n x more, ← c.bytes_are, ← append_assoc w b _)
 
 -- the first bytes of what is left are written
 pub writing-more : {old now new : Option (List ℕ)} {all left x more b : List ℕ} {n : ℕ}
@@ -191,7 +191,7 @@ pub writing-fails : {old now : Option (List ℕ)} (new : Option (List ℕ)) {all
     {n : ℕ} → IsWriting old now all (take n left) → Cuts left x more n b → AppendsPart now new b
     → AppendsPart old new all
 writing-fails {old} {now} new {all} {left} {x} {more} {b} {n} w c a = rw (cut-left w.part w.whole c)
-    (AppendsPart-first _ new (w.part ++ b) _ (AppendsPart-second old now _ w.part b w.appended a))
+    (AppendsPart-first _ new _ _ (AppendsPart-second _ now _ _ b w.appended a))
 
 -- ---- the whole object, from its held symbols
 
@@ -234,7 +234,7 @@ module _ {n : ℕ} {F : List Fact} {key : Key} {x : Object n} {info : Informatio
   told-bytes : {walk : Walk} {length : ℕ} (again : List Entry) → again ≡ x.symbols → walk ≡ at_start
       info again → length ≡ info.transfer_length → take length (bytes_left walk) ≡ object F key info
   told-bytes {walk} {length} again a start l = rw
-      (l, ap bytes_left start ∙ bytes-start info again, a, ← object-told F _ x info t.told)
+      (l, ap bytes_left start ∙ bytes-start info _, a, ← object-told F _ x info t.told)
 
   -- what is written by it: the whole object, or a prefix of it
   module _ {W : Type 0} {written : W → Option (List ℕ)} {old new : W} {walk : Walk}

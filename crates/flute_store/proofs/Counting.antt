@@ -5,7 +5,7 @@ use Rattle.std.proofs.Common.{append-nil, ◌≡◌, ◌≢◌, ℕ, ◌≤◌, 
 use Rattle.std.proofs.Common.{Option, Some, None, refl, sym, ap, ◌∙◌, subst, arith}
 use Rattle.flute_store.proofs.FactEntries.{session_keys, object_keys, symbol_keys, at-entries}
 use Rattle.flute_store.proofs.StoreJoin.{OrderedObject, OrderedSession, OrderedStore, ordered-store}
-use Rattle.flute_store.proofs.StoreJoin.{in_store, symbols_apart}
+use Rattle.flute_store.proofs.StoreJoin.{symbols_apart}
 use Rattle.flute_store.proofs.StoreJoin.{objects_apart, sessions_apart, object-symbol, object-info}
 use Rattle.flute_parts.proofs.Public.{object_of-some}
 use Rattle.flute_store.proofs.Common
@@ -59,7 +59,7 @@ module _ {X : Type 0} (same : X → X → Bool) (t : Tells same) (part : Address
       → length ks ≤ length (firsts same (named part F))
   count-ge ks d h = length-Distinct _ t _ _ d (λ x k. let n = h x k in
       let f = a_fact F n.0 n.1 in
-      has-firsts _ t x _ ∙ named-member _ t part f.0 F x f.1 (ap part f.2 ∙ n.2))
+      has-firsts _ t x _ ∙ named-member _ t part _ F x f.1 (ap part f.2 ∙ n.2))
 
 -- ---- what addresses name
 
@@ -72,7 +72,7 @@ module _ {n : ℕ} where
   pub at-content : (m : Sessions n) (a : Address) → OrderedStore
       m → fact_at (content m) a ≡ option_map_or (λ os. fact_at (session_facts a.key.session os) a)
       (value_at session_cmp m a.key.session) None
-  at-content m a p = at-entries session_keys in_store a _ (sessions_apart a) m p.ordered
+  at-content m a p = at-entries session_keys _ a _ (sessions_apart a) m p.ordered
 
   pub at-session : (os : Objects n) (a : Address) → OrderedSession os
       → fact_at (session_facts a.key.session os) a
@@ -129,7 +129,7 @@ module _ {n : ℕ} where
         symbols-held =
             let c = count-Below same_symbol_id symbol_id_tells (symbol_of _) (content m)
             (keys_of _) (λ id a k e. let found = some-value
-            (value_at symbol_id_cmp x.symbols id)
+            (value_at symbol_id_cmp _ id)
             (λ z. k (ap (fact_at _) (named_symbol _ a _ e) ∙ at-symbol _ _ z)) in
             value_at-has symbol_id_cmp symbol_id_tells x.symbols id found.0 found.1) in omega
             (arith, c, length-keys_of x.symbols)
@@ -165,7 +165,8 @@ module _ {n : ℕ} where
         x a k e. let r = object_of-some session a x e in
         let found = some-value _
         (λ z. k (at-found q a.key (ap (value_at session_cmp m) r.0 ∙ f) a.part None z)) in
-        value_at-has object_cmp object_tells os x found.0 (subst (λ z. value_at object_cmp os z ≡ Some found.0) r.1 found.1)) in
+        value_at-has object_cmp object_tells os x found.0
+        (subst (λ z. value_at object_cmp os z ≡ Some found.0) r.1 found.1)) in
         let sound = each-value_at session_cmp (IsSession o) m session os p.each f in
         omega (arith, c, length-keys_of os)
 

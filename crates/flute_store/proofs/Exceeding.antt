@@ -2,7 +2,7 @@
 use Rattle.flute_store.proofs.Maps.{Entry, Objects, Sessions}
 use Rattle.std.proofs.Common.{rules}
 use Rattle.std.proofs.Common.{◌≡◌, ◌≢◌, ℕ, ◌<◌, ◌≤◌, List, [], ◌∷◌, ◌++◌, length, true, false}
-use Rattle.std.proofs.Common.{Option, Some, None, refl, sym, ◌∙◌, subst, inl, inr, ◌⊎◌}
+use Rattle.std.proofs.Common.{Some, None, refl, sym, ◌∙◌, subst, inl, inr, ◌⊎◌}
 use Rattle.std.proofs.Common.{arith}
 use Rattle.flute_store.proofs.FactEntries.{AreMaps, at-one_here}
 use Rattle.flute_store.proofs.OnePair.{symbols_joined, objects_joined, any-value_at}
@@ -21,9 +21,9 @@ use Common.{more_symbols, session_of, object_of, symbol_of, sessions, objects, s
 use Common.{Part, InfoPart, cases_Bool}
 use Common.{false≢true, Tells, has, Distinct, session_tells, object_tells, symbol_id_tells}
 use Common.{AllByRecursion, length-keys_of, sorted_tail, none-some, each-value_at}
-use Common.{value_at-map_join, absent_past, Object, Update, SymbolUpdate, object_join, ObjectOver}
+use Common.{value_at-map_join, absent_past, Object, Update, object_join, ObjectOver}
 use Common.{session_join, store_join, key_in, info_cell_facts, symbol_cell_facts, content}
-use Common.{update_symbols, IsUpdate, IsObject, IsSession, IsStore, AnyValue, ObjectBeyond}
+use Common.{IsUpdate, IsObject, IsSession, IsStore, AnyValue, ObjectBeyond}
 use Common.{SessionBeyond, StoreBeyond, Over-below, Below-from_Same}
 
 -- something is known at each level, whatever the limits
@@ -69,9 +69,6 @@ module _ {n : ℕ} where
     ordered = ordered-map_join session_total _ v w p.ordered q.ordered;
     each = EachValue-map_join _ _ _ session-solid v w p.each q.each;
   }
-
-told-known : (o : Option (SymbolId × SymbolUpdate)) → EachValue IsKnown (update_symbols o)
-told-known = search rules
 
 pub solid-one : (n : ℕ) (key : Key) (update : Update) → IsUpdate update
     → SolidStore (one_object n key update)

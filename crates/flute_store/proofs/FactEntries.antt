@@ -42,12 +42,12 @@ elsewhere-none a (f ∷ F) h = rw
 pub each-append : {X : Type 0} (P : X → Type 0) (xs ys : List X) → AllByRecursion P xs
     → AllByRecursion P ys → AllByRecursion P (xs ++ ys)
 each-append P [] ys h k = k
-each-append P (x ∷ xs) ys h k = (h.0, each-append P xs ys h.1 k)
+each-append P (x ∷ xs) ys h k = (h.0, each-append P xs _ h.1 k)
 
 pub each-flat_map : {E X : Type 0} (P : X → Type 0) (f : E → List X)
     → ((e : E) → AllByRecursion P (f e)) → (es : List E) → AllByRecursion P (flat_map f es)
 each-flat_map P f h [] = tt
-each-flat_map P f h (e ∷ es) = each-append P (f e) (flat_map f _) (h e) (each-flat_map P f h es)
+each-flat_map P f h (e ∷ es) = each-append P (f e) _ (h e) (each-flat_map P f h es)
 
 -- P holds of the address of each fact of a cell
 pub cell-stands : {T : Type 0} (P : Address → Type 0) (told : T → Fact) (clash : Fact)
@@ -138,4 +138,4 @@ module _ {K X : Type 0} {cmp : K → K → Ordering} (keys : AreKeys cmp) (f : K
     at-map_join {es} {fs} m = at-entries _ (search (rules, ordered-map_join)) ∙
         reading_at keys.order _ P (λ v. fact_at _ a) _ (joined a) (λ c. refl) (joined-none a) keeps
         _ _ q m.first m.second m.first_each m.second_each ∙ sym
-        (λ i. joined a (at-entries es m.first i) (at-entries fs m.second i))
+        (λ i. joined a (at-entries _ m.first i) (at-entries fs m.second i))

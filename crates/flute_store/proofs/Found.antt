@@ -25,15 +25,15 @@ is_known _ = true
 
 info-held : (key : Key) (c : Cell Information)
     → is_some (fact_at (info_cell_facts key c) (info_address key)) ≡ is_known c
-info-held key Absent = rw (fact_at-nil (info_address key))
-info-held key (One i) = rw (at-one_here (Info key i))
+info-held key Absent = rw (fact_at-nil (info_address _))
+info-held key (One i) = rw (at-one_here (Info _ i))
 info-held key Conflict = rw (at-one_here (InfoConflict _))
 
 symbol-held : (key : Key) (id : SymbolId) (c : Cell (List ℕ))
     → is_some (fact_at (symbol_cell_facts key id c) (symbol_address key id)) ≡ is_known c
-symbol-held key id Absent = rw (fact_at-nil (symbol_address key _))
-symbol-held key id (One b) = rw (at-one_here (Symbol key _ b))
-symbol-held key id Conflict = rw (at-one_here (SymbolConflict key _))
+symbol-held key id Absent = rw (fact_at-nil (symbol_address _ _))
+symbol-held key id (One b) = rw (at-one_here (Symbol _ _ b))
+symbol-held key id Conflict = rw (at-one_here (SymbolConflict _ _))
 
 pub known-is : {T : Type 0} (c : Cell T) → IsKnown c → is_known c ≡ true
 known-is = grind arith
@@ -57,12 +57,12 @@ module _ {n s o : ℕ} {m : Sessions n} (p : IsStore s o m) where
   module _ {os : Objects n} where
     pub no_object : (a : Address) → value_at session_cmp m a.key.session ≡ Some os
         → value_at object_cmp os a.key.object ≡ None → is_some (fact_at (content m) a) ≡ false
-    no_object a f h = rw (at-found in_order a.key f a.part None h)
+    no_object a f h = rw (at-found in_order _ f a.part _ h)
 
     pub of_info : (key : Key) {x : Object n} → value_at session_cmp m key.session ≡ Some os
         → value_at object_cmp os key.object ≡ Some x
         → is_some (fact_at (content m) (info_address key)) ≡ is_known x.info
-    of_info key {x} f h = rw (at-info in_order key f h, info-held _ x.info)
+    of_info key {x} f h = rw (at-info in_order _ f h, info-held _ x.info)
 
     pub of_symbols : (key : Key) (id : SymbolId) {x : Object n}
         → value_at session_cmp m key.session ≡ Some os → value_at object_cmp os key.object ≡ Some x
@@ -140,7 +140,7 @@ module _ {n s o : ℕ} {m : Sessions n} (p : IsStore s o m)
   module _ {os : Objects n}
       (f : value_at session_cmp m key.session ≡ Some os) where
     pub unheard-object : value_at object_cmp os key.object ≡ None → IsUnheard (content m) key
-    unheard-object h part = at-found (ordered-store s o m p) key f _ None h
+    unheard-object h part = at-found (ordered-store s o m p) _ f _ None h
 
     pub told-object : {x : Object n} → value_at object_cmp os key.object ≡ Some x
         → IsTold (content m) key x

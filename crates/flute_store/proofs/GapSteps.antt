@@ -96,7 +96,7 @@ module _ (w : Walk) (r : Reason) (p : IsWalk w) (h : 0 < w.esi) (d : r ≢ Missi
   unfolding left
   at_not_held t =
       let l = inside-less w p t.0 in
-      rw (symbols-first w l) (elsewhere-here w.partition _ (here w) r (others_left w)
+      rw (symbols-first w l) (elsewhere-here _ _ (here w) r _
       (λ e. d (search (rules, same_Some, value-before, first-above))) (others-above w p l))
 
   pub stop-elsewhere : (l : Upcoming) → upcoming_of w ≡ l → EndsRun r l
@@ -106,7 +106,7 @@ module _ (w : Walk) (r : Reason) (p : IsWalk w) (h : 0 < w.esi) (d : r ≢ Missi
   stop-elsewhere Passed e s = absurd s
   stop-elsewhere Fitting e s =
       let t = told w _ e in
-      rw (taken-left w.run w None p t) (at_fitting t)
+      rw (taken-left w.run w _ p t) (at_fitting t)
   stop-elsewhere (Wanted q) e s = rw (taken-left w.run w _ p (told w (Wanted q) e)) (λ f g. s g)
   stop-elsewhere NotHeld e s = at_not_held (told w _ e)
 
@@ -217,7 +217,7 @@ missing-elsewhere w p l (inr n) =
     let e = n.1 in
     rw (symbols-first (after_missing w) n.0) (elsewhere-here w.partition _ q Missing
     (others_left (after_missing w)) (λ z. known-not_missing w.partition q e.1
-    (first-known w.held e n.2 n.3 p.known) (search (rules, value_at, value-here)))
+    (first-known w.held e _ n.3 p.known) (search (rules, value_at, value-here)))
     (above-block _ (until_of w) w.size _ (blocks-later w p l)))
 
 missing-left : (w : Walk) → Until w.sbn w.esi w.size (until_of w) w.held

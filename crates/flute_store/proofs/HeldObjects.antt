@@ -2,7 +2,8 @@
 use Rattle.flute_store.proofs.Maps.{Objects, Sessions}
 use Rattle.std.proofs.Common.{◌≡◌, ℕ, [], ◌∷◌, ◌++◌, refl, ◌∙◌}
 use Rattle.std.proofs.lemmas.Grind.{flat_map-append}
-use Rattle.flute_store.{specs.HeldObjects.{keyed, keyed_objects, HaveObjects}, specs.Walk.{facts_in}}
+use Rattle.flute_store.{specs.HeldObjects.{keyed, keyed_objects, HaveObjects}}
+use Rattle.flute_store.{specs.Walk.{facts_in}}
 use Rattle.flute_store.proofs.FactEntries.{each-append}
 use Rattle.flute_store.proofs.Common
 use Common.{EachValue, Session, Key, Object}
@@ -23,8 +24,8 @@ module _ {n : ℕ} where
   pub known-objects : (o : ℕ) (m : Sessions n)
       → EachValue (IsSession o) m → EachValue IsObject (keyed_objects (λ os. os) m)
   known-objects o [] p = tt
-  known-objects o (e ∷ m) p = each-append (λ (x : Key × Object n). IsObject x.1) _
-      _ (each-keyed e.0 _ p.0.each) (known-objects o m p.1)
+  known-objects o (e ∷ m) p = each-append (λ (x : Key × Object n). IsObject _) _
+      _ (each-keyed _ _ p.0.each) (known-objects o m p.1)
 
   pub have-objects : (o : ℕ) (m : Sessions n) → EachValue (IsSession o) m → HaveObjects (λ os. os) m
   have-objects o [] p = tt

@@ -4,21 +4,18 @@ use Rattle.std.proofs.Common.{rules}
 use Rattle.std.proofs.Common.{◌≡◌, ℕ, zero, suc, ◌+◌, ◌-◌, ◌<◌, ◌≤◌, ◌^◌, Bool, true, false, List}
 use Rattle.std.proofs.Common.{[], ◌∷◌, ◌++◌, length, map, Some, refl, sym, ap, ◌∙◌, subst, arith}
 use Rattle.std.proofs.lemmas.List.{Elements.{filter-append}, nil_from_length, length-append}
-use Rattle.std.{proofs.lemmas.List.FromFn.{length-map-range_with_len}, specs.Prelude.{◌&&◌}}
+use Rattle.std.{proofs.lemmas.List.FromFn.{length-map-range_with_len}}
 use Rattle.flute_store.{specs.declared.status.Wanted.{Wanted}, proofs.Runs.{runs-listed}}
 use Rattle.flute_store.proofs.WholeObjects.{gapless-whole}
 use Rattle.flute_store.proofs.ToldObjects.{ToldGaps, wants-told, told-information}
 use Rattle.flute_store.proofs.Common
-use Common.{◌==◌, flat_map, range_with_len, cases_Bool, Information}
+use Common.{flat_map, range_with_len, cases_Bool, Information}
 use Common.{fact_at, info_address, Info, symbol_id, ids, Key, SymbolId, Fact, Reason, Missing}
 use Common.{Conflicting, Misfit, Gap, Object, Whole, wants, runs, listed, same_reason, AreRuns}
 use Common.{wanted, how_many, IsCount, Adds, IsPartial, status_of, TellsStatus}
 
 abbrev Want : Type 0
 Want = SymbolId × Reason
-
-abbrev all_zero : Wanted → Bool
-all_zero count = (count.missing == 0) && ((count.conflicting == 0) && (count.misfit == 0))
 
 pub how-nil : (r : Reason) → how_many r [] ≡ 0
 unfolding how_many
@@ -142,7 +139,7 @@ pub store-status : {n : ℕ} {F : List Fact} {key : Key} {x : Object n} {info : 
 store-status {n} {F} {key} {x} {info} {held} {gs} t count c =
     let all = ap (flat_map _) t.gaps_are ∙ runs-listed _ ∙ ap (λ s. wanted info s (ids info))
     t.held_is ∙ sym (wants-told F _ x _ t.told) in tells-status F _ _ _
-    (told-information F _ x _ t.told t.info_is) (subst (IsCount count) all c)
+    (told-information F _ x _ t.told t.info_is) (subst (IsCount _) all c)
 
 -- ---- gap after gap
 

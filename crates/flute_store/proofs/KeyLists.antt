@@ -74,7 +74,7 @@ module _ {X : Type 0} where
       → AllByRecursion (λ y. session_cmp k.session y ≡ Less) (keys_of m) → Before k (store_keys m)
   sessions_before k [] p = tt
   sessions_before k (e ∷ m) p = each-append (λ y. key_cmp k y ≡ Less) (session_keys _ _)
-      (store_keys m) (session_before k _ _ p.0) (sessions_before k m p.1)
+      _ (session_before k _ _ p.0) (sessions_before k m p.1)
 
   all_before : (s : Session) (es : List (ObjectName × X))
       (m : List (Session × List (ObjectName × X))) → AllByRecursion (λ y. session_cmp s y ≡ Less)
@@ -115,7 +115,7 @@ module _ {n : ℕ} where
       → EachValue OrderedSession m → IsStrictlySortedBy key_cmp (store_keys m)
   unfolding IsStrictlySortedBy
   sessions_rise [] p q = tt
-  sessions_rise (e ∷ m) p q = rise-append (session_keys _ _) (store_keys m)
+  sessions_rise (e ∷ m) p q = rise-append (session_keys _ _) _
       (session_rises _ _ q.0.ordered) (sessions_rise m p.1 q.1) (all_before _ _ m p.0)
 
   pub keys_rise : (m : Sessions n) → OrderedStore m

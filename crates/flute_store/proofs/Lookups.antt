@@ -1,7 +1,7 @@
 -- The symbols of a partition are in rising order, and what is wanted of them (specs/Objects).
 use Rattle.flute_store.proofs.Maps.{Entry}
 use Rattle.std.proofs.Common.{rules}
-use Rattle.std.proofs.Common.{◌≡◌, ℕ, zero, suc, ◌+◌, ◌-◌, ◌<◌, get_or, List, [], ◌∷◌, ◌++◌, length}
+use Rattle.std.proofs.Common.{◌≡◌, ℕ, zero, suc, ◌+◌, ◌<◌, get_or, List, [], ◌∷◌, ◌++◌, length}
 use Rattle.std.proofs.Common.{map, drop, refl, arith, Option, Some, None}
 use Rattle.std.proofs.{Math.Nat.{sub-zero}, lemmas.List.{drop_more}, Math.Seq.{drop-length}}
 use Rattle.flute_store.proofs.Common
@@ -36,12 +36,12 @@ above-later p (x ∷ xs) l = (sbn-less p x l.0, above-later p xs l.1)
 pub above-range : (n a b k : ℕ) (xs : List SymbolId) → a < b → Above (symbol_id n a) xs
     → Above (symbol_id n a) (map (symbol_id n) (range_with_len b k) ++ xs)
 above-range n a b zero xs l s = s
-above-range n a b (suc k) xs l s = (esi-less n a b l, above-range n a (b + 1) k xs (omega arith) s)
+above-range n a b (suc k) xs l s = (esi-less n a b l, above-range n a (b + 1) k _ (omega arith) s)
 
 later-block : (n m a k : ℕ) (xs : List SymbolId) → n < m → Later n xs
     → Later n (map (symbol_id m) (range_with_len a k) ++ xs)
 later-block n m a zero xs l s = s
-later-block n m a (suc k) xs l s = (l, later-block n m (a + 1) k xs l s)
+later-block n m a (suc k) xs l s = (l, later-block n m (a + 1) k _ l s)
 
 later-listing : (n m : ℕ) (sizes : List ℕ) → n < m
     → Later n (flat_map block_ids (enumerate_from m sizes))
@@ -53,17 +53,12 @@ pub later-blocks : (info : Information) (n m : ℕ) → n < m → Later n (block
 unfolding blocks_from
 later-blocks info n m l = later-listing n m (drop m _) l
 
--- a block begins with its first symbol
-pub block_from-first : (n a s : ℕ) → a < s
-    → block_from n a s ≡ symbol_id n a ∷ block_from n (a + 1) s
-block_from-first = search rules
-
 pub block_from-end : (n s : ℕ) → block_from n s s ≡ []
 block_from-end = search rules
 
 pub above-block : (n a s : ℕ) (xs : List SymbolId) → Later n xs
     → Above (symbol_id n a) (block_from n (a + 1) s ++ xs)
-above-block n a s xs l = above-range n a (a + 1) (s - (a + 1)) _ (omega arith) (above-later _ _ l)
+above-block n a s xs l = above-range n a (a + 1) _ _ (omega arith) (above-later _ _ l)
 
 -- the blocks from one on are that one and those after it
 pub blocks_from-next : (info : Information) (n : ℕ) → n < length (sizes info)
@@ -73,7 +68,7 @@ blocks_from-next info n l = rw (drop_more _ n 0 l, sub-zero)
 
 pub blocks_from-end : (info : Information) → blocks_from info (length (sizes info)) ≡ []
 unfolding blocks_from
-blocks_from-end info = rw (drop-length (sizes info))
+blocks_from-end info = rw (drop-length (sizes _))
 
 pub blocks_from-all : (info : Information) → blocks_from info 0 ≡ ids info
 unfolding blocks_from ids
@@ -117,7 +112,7 @@ pub wanted-missing : (info : Information) (held : List Entry) (n a k : ℕ) (xs 
 unfolding wanted
 wanted-missing info held n a zero xs h = refl
 wanted-missing info held n a (suc k) xs h =
-    rw (h a (omega arith), wanted-missing info held n (a + 1) k xs (λ i l. h i (omega (arith, l))))
+    rw (h a (omega arith), wanted-missing info _ n (a + 1) k _ (λ i l. h i (omega (arith, l))))
 
 -- the first of the wanted symbols is another than p, or wanted for another reason
 abbrev pub Elsewhere : SymbolId → Reason → List (SymbolId × Reason) → Type 0
@@ -137,7 +132,7 @@ pub elsewhere-above : (info : Information) (held : List Entry) (p : SymbolId) (r
 unfolding wanted
 elsewhere-above info held p r [] a = tt
 elsewhere-above info held p r (x ∷ xs) a = elsewhere-cons p x r (want_cell _ x _)
-    (wanted _ held xs) (λ e f. not_itself p x a.0 e) (elsewhere-above info _ p r xs a.1)
+    (wanted _ held _) (λ e f. not_itself p x a.0 e) (elsewhere-above info _ p r xs a.1)
 
 pub elsewhere-here : (info : Information) (held : List Entry) (p : SymbolId) (r : Reason)
     (xs : List SymbolId) → (want_cell info p (value_at symbol_id_cmp held p) ≡ Some r → ⊥)

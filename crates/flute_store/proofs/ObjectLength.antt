@@ -55,7 +55,7 @@ each-symbol F key info v w k id l g =
 
 -- the last symbol is no longer than the others
 last-short : (info : Information) → 0 < info.symbol_length → last_length info ≤ info.symbol_length
-last-short info h = shorter _ _ _ (div_ceil_times info.transfer_length _ h).0
+last-short info h = shorter _ _ _ (div_ceil_times _ _ h).0
   where
     shorter : (l t e : ℕ) → l ≤ t * e → l - (t - 1) * e ≤ e
     shorter l zero e h = omega (arith, h)
@@ -75,7 +75,7 @@ unfolding object symbol_bytes
 object-length F key info v w = length-take-le _ _ (elim (eq-zero-or-pos info.transfer_length) [
   | inl z ↦ omega (arith, z)
   | inr l ↦ let count = ids_counted _ v in
-      let pos = div_ceil-pos info.transfer_length info.symbol_length l in
-      enough info (symbol_bytes F key) _ count (omega (arith, pos))
-      (last-short info (v.parts l).symbol) (each-symbol F _ info v w)
+      let pos = div_ceil-pos _ info.symbol_length l in
+      enough info (symbol_bytes F _) _ count (omega (arith, pos))
+      (last-short info (v.parts l).symbol) (each-symbol F _ _ v w)
 ])

@@ -54,7 +54,7 @@ module _ {K X : Type 0} {cmp : K → K → Ordering} {join : X → X → X} (all
   some-right es fs h =
       let laws = map_join_laws all.keys.order all.keys.same all.laws in
       some_above all.keys.order _ _ _
-      (subst (IsBelow (map_join cmp join) fs) (laws.commutative _ _) (below_join laws fs es)) h
+      (subst (IsBelow (map_join _ join) _) (laws.commutative _ _) (below_join laws _ es)) h
 
   -- one pair is joined into a map
   abbrev pub with_pair : List (K × X) → K → X → List (K × X)
@@ -110,7 +110,7 @@ module _ {K X : Type 0} {cmp : K → K → Ordering} {join : X → X → X} (all
   module _ (es : List (K × X)) (k : K) (w : X) where
     joined_there : (found : Option X) → IsOrdered cmp es → value_at cmp es k ≡ found
         → value_at cmp (with_pair es k w) k ≡ join_values join found (Some w)
-    joined_there found s f = value_at-map_join all.keys.order join _ ((k, w) ∷ []) k s
+    joined_there found s f = value_at-map_join all.keys.order _ _ ((k, w) ∷ []) k s
         (search (rules, ordered_one)) ∙ rw (f, tied_itself all.keys.order k)
 
     -- beyond a limit: at a held key, at a new one, and at a new key of a full map

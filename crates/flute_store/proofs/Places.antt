@@ -70,7 +70,7 @@ tells-next w (Some next) i = by_order _ refl
         (upcoming_wanted (want_length w.partition next.0 next.1)) NotHeld)
     by_order Less e = (next, refl)
     by_order Equal e =
-        let h = symbol_id_place next.0 (symbol_id w.sbn w.esi) e in
+        let h = symbol_id_place next.0 (symbol_id w.sbn _) e in
         subst (λ id. TellsAt w (Some next) (upcoming_wanted (want_length w.partition id next.1)))
         (sym h) (tells-wanted w (Some next) next.1 i (ap (λ id. Some (id, next.1)) h))
     by_order Greater e = (i, e)
@@ -112,17 +112,17 @@ module _ (w : PartitionScan) (next : Next) (p : IsPlace w) where
     running = tt;
   }
   place-on BlockEnd None e h s =
-      let b = block-next e in let r = no-run w.run BlockEnd tt h in search rules
+      let b = block-next e in let r = no-run w.run _ tt h in search rules
   place-on Fitting None e h s =
-      let i = inside (told-at w next Fitting e).0 in
-      let r = no-run w.run Fitting tt h in
+      let i = inside (told-at w _ Fitting e).0 in
+      let r = no-run _ Fitting tt h in
       search rules
   place-on (Wanted r) None e h s =
-      let t = told-at w next (Wanted r) e in
+      let t = told-at w _ (Wanted r) e in
       let i = inside t.0 in
       let ends = run-ends w.sbn w.esi r w.run p.running h t.1 in search rules
   place-on NotHeld None e h s =
-      let u = until-within e in let r = no-run w.run NotHeld tt h in search rules
+      let u = until-within e in let r = no-run _ NotHeld tt h in search rules
   place-on other None e h s = p
 
   -- and a walk that a turn led to is
@@ -146,10 +146,6 @@ Kind w next (Some Turn.Wanted) x = (r : Reason) × (upcoming_at w next ≡ Wante
     (ended_run w.run (Wanted r) ≡ None) × (x ≡ after_wanted w r)
 Kind w next (Some Turn.Passed) x = (upcoming_at w next ≡ Passed) × (x ≡ w)
 Kind w next (Some Turn.End) x = (upcoming_at w next ≡ End) × (w.run ≡ None) × (x ≡ w)
-
-kind-on : (w : PartitionScan) (next : Next) (l : Upcoming) (o : Option Gap) → upcoming_at w next ≡ l
-    → ended_run w.run l ≡ o → Kind w next (turn_after w next l o).0 (turn_after w next l o).1
-kind-on = search rules
 
 pub kind : (w : PartitionScan) (next : Next) (t : Option Turn) (x : PartitionScan)
     → (t, x) ≡ turn_of w next → Kind w next t x

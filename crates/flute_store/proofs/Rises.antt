@@ -118,7 +118,7 @@ module _ {n : ℕ} where
           (λ id a. a ≡ symbol_address key id) (λ _. Unit {0})
       symbols = record {
         rises = λ e _. cell-rises _ _ e.1;
-        within = λ e. cell-stands (λ a. a ≡ symbol_address key e.0) _ _ (λ v. refl) refl e.1;
+        within = λ e. cell-stands (λ a. a ≡ symbol_address key e.0) _ _ (λ v. refl) refl _;
         order = λ j k a b q r l. rw (q, r, equal_keys key, l) refl;
       }
 
@@ -130,9 +130,9 @@ module _ {n : ℕ} where
   object-stands : (P : Address → Type 0) (key : Key) → ((a : Address) → a.key ≡ key → P a)
       → (x : Object n) → Stand P (object_facts key x)
   object-stands P key h x =
-      each-append (Of P) _ _ (cell-stands P _ _ (λ v. h _ refl) (h _ refl) x.info)
-      (each-flat_map _ (λ e. symbol_cell_facts key e.0 e.1)
-      (λ e. cell-stands P _ _ (λ v. h _ refl) (h _ refl) e.1) x.symbols)
+      each-append (Of P) _ _ (cell-stands P _ _ (λ v. h _ refl) (h _ refl) _)
+      (each-flat_map _ (λ e. symbol_cell_facts _ e.0 _)
+      (λ e. cell-stands P _ _ (λ v. h _ refl) (h _ refl) _) x.symbols)
 
   -- the facts of an object, then of a session, rise
   session-rises : (session : Session) (os : Objects n) → OrderedSession os
@@ -150,7 +150,7 @@ module _ {n : ℕ} where
   session-stands : (P : Address → Type 0) (session : Session)
       → ((a : Address) → a.key.session ≡ session → P a) → (os : Objects n)
       → Stand P (session_facts session os)
-  session-stands P session h os = each-flat_map (Of P) (λ e. object_facts (key_in session e.0) e.1)
+  session-stands P session h os = each-flat_map (Of P) (λ e. object_facts (key_in session _) e.1)
       (λ e. object-stands P (key_in _ _) (search rules) e.1) os
 
   -- the facts of a store are in the order of their addresses

@@ -1,6 +1,6 @@
 -- Gaps are the longest runs of what is wanted: they list just that (specs/Objects: runs).
 use Rattle.std.proofs.Common.{rules}
-use Rattle.std.proofs.Common.{◌≡◌, ℕ, zero, suc, ◌+◌, ◌-◌, ◌<◌, ◌≤◌, true, false, List}
+use Rattle.std.proofs.Common.{◌≡◌, ℕ, zero, suc, ◌+◌, ◌-◌, ◌<◌, ◌≤◌, true, List}
 use Rattle.std.proofs.Common.{[], ◌∷◌, ◌++◌, map, refl, sym, inl, inr, arith}
 use Rattle.flute_store.proofs.Common
 use Common.{flat_map, range_with_len, SymbolId, Reason, Gap, symbol_id, same_reason}
@@ -12,9 +12,6 @@ Want = SymbolId × Reason
 
 pub reason_same : (r s : Reason) → same_reason r s ≡ true → r ≡ s
 reason_same = grind arith
-
-pub reason_itself : (r : Reason) → same_reason r r ≡ true
-reason_itself = grind arith
 
 -- a gap that is continued by another ends just before it, in its block and for its reason
 pub goes_on-tells : (g h : Gap) → goes_on g h ≡ true
@@ -108,15 +105,6 @@ runs-unique (g ∷ gaps) s =
     rw e (gap-runs (g.last - g.first) _ g.first {l = g.last} _ _ (omega arith)
     (runs-unique _ s.2) s.1)
 
--- a gap that differs from the one of w
-not-goes : (g h : Gap) → (g.sbn ≡ h.sbn → g.last + 1 ≡ h.first → g.reason ≡ h.reason → ⊥)
-    → goes_on g h ≡ false
-not-goes g h n = grind (arith, goes_on-tells g h)
-
-apart-before : (g : Gap) (w : Want) (gaps : List Gap)
-    → (w.0 ≡ symbol_id g.sbn (g.last + 1) → w.1 ≡ g.reason → ⊥) → IsApart g (before (one w) gaps)
-apart-before x0 x1 x2 x3 = search rules
-
 pub apart-runs : (g : Gap) (ws : List Want) → Elsewhere (symbol_id g.sbn (g.last + 1)) g.reason ws
     → IsApart g (runs ws)
 unfolding runs
@@ -134,5 +122,5 @@ pub runs-first : (n a b : ℕ) (r : Reason) (ws : List Want) → a < b → Elsew
 runs-first n a b r ws l e =
     let k : b - a ≡ suc (b - 1 - a) = omega arith in
     let z : b - 1 + 1 ≡ b = omega arith in
-    rw k (gap-runs (b - 1 - a) n a {l = b - 1} r _ (omega arith) refl
+    rw k (gap-runs (b - 1 - a) n a r _ (omega arith) refl
     (apart-runs (gap n a _ r) _ (search rules)))

@@ -26,10 +26,8 @@ stands-before (x ∷ F) G g f s = stands-before F G g f s.1
 none-before : (key : Key) (info : Information) (F G : List Fact)
     → IsRising (F ++ (Info key info ∷ G)) → AllByRecursion (λ f. (address f).key ≡ key → ⊥) F
 none-before key info [] G r = tt
-none-before key info (f ∷ F) G r = (
-  (λ e. not-less _ (address f).part _ e (stands-before F G _ f r.0)),
-  none-before _ info F G r.1,
-)
+none-before key info (f ∷ F) G r =
+    ((λ e. not-less _ (address f).part _ e (stands-before F G _ f r.0)), none-before _ _ F G r.1)
 
 -- what a scan passed is a part of the facts F, which rise, without a gap: the information first
 pub record Among (s : Scanned) (F before rest : List Fact) : Type 0 where

@@ -139,9 +139,6 @@ begins-blocks {o} h {t} {x} c v e p =
     let m = moved-on o.walk h t x (kind _ h t x e) in
     rw (← v) (record { partition_is = m.0; onward = m.1; within = p.begun })
 
-pub begins-more : (a b c : ScanState) → BeginsBlocks a b → BeginsBlocks b c → BeginsBlocks a c
-begins-more = search rules
-
 -- after a step a scan is still in order: its place, its counts and its partition
 pub step-scan : {o : ScanState} (h : Option Held) (t : Option Turn)
     {x : PartitionScan} (c : Counted) → IsScan o → (t, x) ≡ turn_of o.walk h → IsPlace x

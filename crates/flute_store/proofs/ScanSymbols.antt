@@ -59,9 +59,9 @@ symbol-passed o s n x bytes q k d = (
     info_is = q.info_is;
     begins =
         (q.begins.0 ++ next_fact _ n ∷ [], ap (λ fs. fs ++ next_fact s.key n ∷ []) q.begins.1);
-    walks = λ more r m h. let p = ap (λ es. es ++ more) (shown-next s n) ∙ append_assoc
-        (shown _ _) _ more in
-        let r' = subst (IsOrdered symbol_id_cmp) p r in
+    walks = λ more r m h. let p = ap (λ es. es ++ more) (shown-next s n) ∙ append_assoc _ _ more
+        in
+        let r' = subst (IsOrdered _) p r in
         let y = k _ r' m in
         record {
           walk = y.0;
@@ -132,7 +132,7 @@ pub passed-done : (s : Scanned) (n : HeldBytes) (next : Next) (bytes said : Opti
 passed-done s n next None said e d = tt
 passed-done s n next (Some b) said {w} {x} e d =
     let p = shown-next s n in
-    let more : List Entry = (n.0, cell_of n.1) ∷ [] in
+    let more : List Entry = (n.0, cell_of _) ∷ [] in
     record {
       done = d.done;
       all = rw (d.all, ← symbols-same x w e);
@@ -160,8 +160,8 @@ pub fitting-done : {o : ScanState} {s : Scanned} {n : HeldBytes}
 fitting-done p None said r d = tt
 fitting-done {o} {s} {n} {x} p (Some b) said r d =
     let k = step-kind p in
-    let t = told-at o.walk (held_next (Some n)) Upcoming.Fitting k.0 in
-    let here = symbol_id o.walk.sbn o.walk.esi in
+    let t = told-at o.walk _ _ k.0 in
+    let here = symbol_id _ o.walk.esi in
     let h = length-is n here t.1.0 t.1.1 in
     let l : o.walk.esi < o.walk.size = omega arith in
     let f = shown-next s n in
@@ -206,7 +206,7 @@ runs-head id r ws = by_gaps _
     by_gaps : (gaps : List Gap) → (g : Gap) × (gs : List Gap) × (before (one (id, r)) gaps ≡ g ∷ gs)
         × (g.sbn ≡ id.sbn) × (g.first ≡ id.esi)
     by_gaps [] = (one (id, r), [], refl, refl, refl)
-    by_gaps (h ∷ gaps) = elim (cases_Bool (goes_on (one (id, r)) h)) [
+    by_gaps (h ∷ gaps) = elim (cases_Bool (goes_on (one _) h)) [
       | inl t ↦ (
         record h { first = id.esi },
         gaps,

@@ -34,18 +34,14 @@ known-cell = search rules
 pub shows-next : (key : Key) (next : Next) (more : List Entry)
     → ComesAs key (coming_fact key next) more → ShowsNext more (held_next next)
 shows-next key None more h = h
-shows-next key (Some (id, Some b)) more h =
-    (One _, h.0, rw (h.1, shown-told key (id, Some b)), refl)
+shows-next key (Some (id, Some b)) more h = (One _, h.0, rw (h.1, shown-told key _), refl)
 shows-next key (Some (id, None)) more h = (Conflict, h.0, rw (h.1, shown-told _ (id, None)), refl)
 
 -- ---- the symbols that are left
 
 pub length-left : (w : Walk)
     → length (symbols_left w) ≡ (w.size - w.esi) + length (blocks_from w.partition w.begun)
-length-left w = rw (
-  length-append (block_from w.sbn _ w.size) (blocks_from _ w.begun),
-  length-map-range_with_len (symbol_id _) w.esi (w.size - w.esi),
-)
+length-left w = rw (length-append (block_from _ _ w.size) _, length-map-range_with_len _ w.esi _)
 
 -- none at the end
 pub end-symbols : (w : PartitionScan) → w.esi ≡ w.size → w.begun ≡ length (sizes w.partition)
@@ -87,7 +83,7 @@ new-scan key info w c e i =
       info_is = refl;
       begins = ([], refl);
       walks = λ more r k h. record {
-        walk = rw (e more) (start-walk _ more r k);
+        walk = rw (e _) (start-walk _ more r k);
         gaps_are = sym (ap gaps_left (e _) ∙ start-left _ _);
       };
       done = record {

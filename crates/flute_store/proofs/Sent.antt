@@ -126,7 +126,6 @@ pub datagrams_give_the_object : (F : List Fact) (key : Key) {info : Information}
     (flat_map (facts key.session.sender) datagrams) → Whole F key info ×
     (object F key info ≡ content)
 datagrams_give_the_object F key {info = info} content datagrams v whole written same =
-    let sent = subst
-    (SameMembers (facts_at_key key F)) (facts_are_sent key _ content _ written) same in
+    let sent = subst (SameMembers (facts_at_key _ F)) (facts_are_sent key _ _ _ written) same in
     let h = holds F _ _ _ v sent in
     (is_whole F _ _ _ h v whole, is_object F _ _ _ h v whole)

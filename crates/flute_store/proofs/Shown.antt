@@ -8,7 +8,7 @@ use Rattle.flute_store.proofs.{FactEntries.{not_same}, StoreJoin.{not_symbol, sa
 use Rattle.flute_store.proofs.Lookups.{Above}
 use Rattle.flute_store.proofs.Common
 use Common.{AllByRecursion, IsStrictlySortedBy, keys_of, Equal, is_eq, Equal-is}
-use Common.{cases_Bool, false≢true, IsKnown, value_at, IsOrdered, EachValue, Cell, Conflict}
+use Common.{cases_Bool, false≢true, IsKnown, value_at, IsOrdered, EachValue, Cell}
 use Common.{symbol_address, address, fact_at, IsRising, StandAfter, key_cmp, symbol_id_cmp}
 use Common.{same_key, symbol_id_place, Key, SymbolId}
 use Common.{Fact, Info, InfoConflict, Symbol, SymbolConflict, fact_at-nil, fact_at-here}
@@ -17,8 +17,7 @@ use Common.{fact_at-elsewhere, symbol_id_itself, symbol_fact, shown_by, shown}
 pub shown-append : (key : Key) (F G : List Fact) → shown key (F ++ G) ≡ shown key F ++ shown key G
 unfolding shown
 shown-append key [] G = refl
-shown-append key (f ∷ F) G = rw
-    (shown-append key F G, ← append_assoc (shown_by _ f) (shown key F) _)
+shown-append key (f ∷ F) G = rw (shown-append key F G, ← append_assoc _ (shown _ F) _)
 
 -- ---- what a fact shows
 
@@ -37,8 +36,7 @@ shown-cases key (InfoConflict k) P n s = n (λ id. not_symbol k _ _)
 shown-cases key (Symbol k id b) P n s = shown-if _ k _ _ P (λ d. n (λ j e. d (ap (λ a. a.key) e)))
     (search rules)
 shown-cases key (SymbolConflict k id) P n s = shown-if _ k _ _ P
-    (λ d. n (λ j e. d (ap (λ a. a.key) e))) (λ e. s id Conflict (λ z. cc)
-    (search rules) (search rules))
+    (λ d. n (λ j e. d (ap (λ a. a.key) e))) (λ e. s id _ (λ z. cc) (search rules) (search rules))
 
 pub shown-none : (key : Key) (F : List Fact) → AllByRecursion (λ f. (address f).key ≡ key → ⊥) F
     → shown key F ≡ []

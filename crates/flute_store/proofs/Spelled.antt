@@ -16,4 +16,4 @@ pub spelled-size : (d : List ℕ) (c : Content) → Spells d c
 spelled-size d c (p, parts, accepted, is) =
     let whole = ap length parts.joined in
     let l : length p.tail ≤ 65535 = omega (arith, length-append {A = ℕ}, accepted.limit) in
-    rw (ap (λ (k : Content). k.symbol) is) (tail_size _ l)
+    rw (ap (λ k. k.symbol) is) (tail_size _ l)

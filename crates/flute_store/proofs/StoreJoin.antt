@@ -5,7 +5,6 @@ use Rattle.flute_store.proofs.FactEntries.{Apart, Elsewhere, elsewhere-none, eac
 use Rattle.flute_store.proofs.FactEntries.{each-flat_map, at-cell_join, session_keys}
 use Rattle.flute_store.proofs.FactEntries.{object_keys, symbol_keys, at-map_join}
 use Rattle.std.proofs.Common.{◌≡◌, List, [], ◌∷◌, ◌++◌, None, refl, sym, ap, ℕ}
-use Rattle.std.proofs.Common.{Option}
 use Rattle.std.specs.Prelude.{bytes_eq}
 use Rattle.flute_store.proofs.Common
 use Common.{Address, Fact, fact_at, joined, fact_at-append, cell_join, IsOrdered}
@@ -16,7 +15,7 @@ use Common.{symbol_address, Same, Below, same_information, key_itself, symbol_id
 use Common.{Below-trans, Below-from_Same, Same-sym, IsBelow, EachValue-map_join, Object}
 use Common.{object_join, symbols_join, session_join, store_join, key_in, info_cell_facts}
 use Common.{symbol_cell_facts, symbols_facts, object_facts, session_facts, content}
-use Common.{IsSession, IsStore, IsStrictlySortedBy, SymbolUpdate, Update, update_symbols}
+use Common.{IsSession, IsStore, IsStrictlySortedBy, Update}
 use Common.{update_object, update_facts}
 
 -- ---- the addresses of the facts of a cell
@@ -40,7 +39,7 @@ symbol-join : (key : Key) (id : SymbolId) (c d : Cell (List ℕ))
     ≡ joined (symbol_address key id) (fact_at (symbol_cell_facts key id c) (symbol_address key id))
     (fact_at (symbol_cell_facts key id d) (symbol_address key id))
 symbol-join key id = at-cell_join _ _ _ (λ v. refl) refl
-    (λ v w. rw (key_itself key, symbol_id_itself id))
+    (λ v w. rw (key_itself key, symbol_id_itself _))
 
 -- ---- the symbols of an object
 
@@ -149,11 +148,9 @@ module _ {n : ℕ} where
 
   pub elsewhere-object : (a : Address) (key : Key) → (key ≡ a.key → ⊥) → (x : Object n)
       → Elsewhere a (object_facts key x)
-  elsewhere-object a key h x =
-      each-append (Apart a) (info_cell_facts _ x.info) (symbols_facts _ x.symbols)
-      (elsewhere-info a _ (λ p. h (ap (λ b. b.key) p)) x.info)
-      (each-flat_map (Apart a) (entry_facts _)
-      (λ e. elsewhere-symbol a key e.0 (search rules) e.1) x.symbols)
+  elsewhere-object a key h x = each-append (Apart a) _ _
+      (elsewhere-info a _ (λ p. h (ap (λ b. b.key) p)) _)
+      (each-flat_map _ (entry_facts _) (λ e. elsewhere-symbol a _ e.0 (search rules) _) x.symbols)
 
   -- ---- a session
   pub objects_apart : (a : Address) (e : ObjectName × Object n) → (a.key.object ≡ e.0 → ⊥)
@@ -198,11 +195,6 @@ module _ {n : ℕ} where
       (Below-from_Same (content (store_join v w)) _ (content-join v w p q))
 
 -- ---- the store of one object
-
-pub told-ordered : (o : Option (SymbolId × SymbolUpdate))
-    → IsOrdered symbol_id_cmp (update_symbols o)
-unfolding IsStrictlySortedBy
-told-ordered = search rules
 
 abbrev pub one_object : (n : ℕ) → Key → Update → Sessions n
 one_object n key update = (key.session, (key.object, update_object update) ∷ []) ∷ []

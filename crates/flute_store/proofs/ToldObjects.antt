@@ -26,11 +26,11 @@ ids_told F key x t id = by_found _ refl
       λ c. absurd (false≢true
           (rw e at (IsSome-lookup_from_Contains (eq_by_cmp_equiv symbol_id_total) id x.symbols c))),
       λ
-          h. absurd (h (t.each id ∙ ap (symbol_fact key id) e)),
+          h. absurd (h (t.each _ ∙ ap (symbol_fact key _) e)),
     )
     by_found (Some c) e =
         let known = each-value_at symbol_id_cmp IsKnown _ id c t.object.symbols_are.each e in (
-          λ _ z. known-fact key id c known (sym (t.each id ∙ ap (symbol_fact key id) e) ∙ z),
+          λ _ z. known-fact key id c known (sym (t.each id ∙ ap (symbol_fact _ id) e) ∙ z),
           λ _.
               Contains-keys_from_lookup {eq = eq_by_cmp symbol_id_cmp}
               (λ p q t. symbol_id_place p q ((Equal-is _).0 t)) id x.symbols (rw e),
@@ -85,9 +85,9 @@ gives-gaps {n} {F} {key} {x} {info} {held} g t b =
     let k = b.held_is ∙ ap keys_of t.held_is in record {
       info = info;
       information = told-information F _ x _ told t.info_is;
-      gaps_are = rw (t.gaps_are, t.held_is, ← wants-told F key x info told);
+      gaps_are = rw (t.gaps_are, t.held_is, ← wants-told F key x _ told);
       rising = rw k told.object.symbols_are.ordered;
-      held_are = rw k (ids_told F key x told);
+      held_are = rw k (ids_told F _ x told);
       begun_is = b.begun_is;
       blocks_are = b.blocks_are;
       ended_is = b.ended_is;

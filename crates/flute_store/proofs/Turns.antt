@@ -1,18 +1,18 @@
 -- What each turn of a walk does (specs/PartitionScan, specs/HeldScan).
 use Rattle.flute_store.proofs.Maps.{Entry, Held}
 use Rattle.std.proofs.Common.{◌≡◌, ℕ, List, Option, Some, None, refl, sym, ap, ◌∙◌}
-use Rattle.std.proofs.Common.{subst, rules, ◌+◌, ◌<◌, ◌^◌, false, length, arith, Bool}
+use Rattle.std.proofs.Common.{subst, rules, ◌+◌, ◌<◌, ◌^◌, false, length, arith}
 use Rattle.std.specs.Prelude.{length}
 use Rattle.flute_store.proofs.Upcoming.{told, step-pass, step-take, step-begin, ahead-trans}
 use Rattle.flute_store.proofs.GapSteps.{step-want, gap-run, gap-missing, gaps-end}
 use Rattle.flute_store.proofs.Common
-use Common.{IsKnown, EachValue, Cell, Information}
-use Common.{symbol_id_cmp, SymbolId, Gap, Turn, Upcoming, End, BlockEnd, Passed}
-use Common.{Fitting, Wanted, NotHeld, PartitionScan, want_cell, walk_of, IsPlace, IsWalk, length_of}
-use Common.{ShowsNext, want_length, upcoming_held, upcoming_next, upcoming_at}
+use Common.{IsKnown, EachValue, Information}
+use Common.{symbol_id_cmp, Gap, Turn, Upcoming, End, BlockEnd, Passed}
+use Common.{Fitting, Wanted, NotHeld, PartitionScan, walk_of, IsPlace, IsWalk}
+use Common.{ShowsNext, upcoming_at}
 use Common.{upcoming_of, until_held, until_next, ended_run, turn_on, turn_after, turn_of}
 use Common.{held_after, TurnsTo, IsOrdered, HeldScan, runs, Walk, at_start, Keeps}
-use Common.{walk_in, last_tick, bound, IsHeldScan, Turns, KeepsGaps, counted}
+use Common.{walk_in, bound, IsHeldScan, Turns, KeepsGaps, counted}
 
 -- the run that ends, if one does, is the run
 pub run-is : (run : Option Gap) (l : Upcoming) (g : Gap) → ended_run run l ≡ Some g → run ≡ Some g
@@ -26,16 +26,6 @@ Ends l = Unit {0}
 
 pub no-run : (run : Option Gap) (l : Upcoming) → Ends l → ended_run run l ≡ None → run ≡ None
 no-run = search rules
-
--- what comes next depends only on the next held symbol
-want-same : (info : Information) (id : SymbolId) (cell : Cell (List ℕ)) → IsKnown cell
-    → want_length info id (length_of cell) ≡ want_cell info id (Some cell)
-want-same = grind arith
-
-upcoming_next-same : (info : Information) (here : SymbolId) (held : List Entry)
-    (next : Option Held) → EachValue IsKnown held → ShowsNext held next
-    → upcoming_next info here next ≡ upcoming_held info here held
-upcoming_next-same = search rules
 
 until-same : (sbn size : ℕ) (held : List Entry) (next : Option Held)
     → ShowsNext held next → until_next sbn size next ≡ until_held sbn size held
@@ -60,7 +50,7 @@ module _ (w : PartitionScan) (held : List Entry) (next : Option Held)
   by_run Passed None e h q = (step-pass _ p (told _ _ e), e, refl)
   by_run Fitting None e h q = (step-take _ p (told _ _ e) (no-run _ _ tt h), e, refl)
   by_run (Wanted r) None e h q = (step-want _ r p (told _ _ e) h, (r, e, refl))
-  by_run NotHeld None e h q = rw (until-same w.sbn _ held next n)
+  by_run NotHeld None e h q = rw (until-same w.sbn _ _ next n)
       (gap-missing _ p (no-run _ NotHeld tt h) e)
 
   -- a turn, given the next held symbol
@@ -98,9 +88,6 @@ walked : (v : HeldScan) (next : Option Held) (t : Option Turn) (x : PartitionSca
 walked v next t x p n e q = subst (λ (r : Option Turn × PartitionScan). TurnsTo (walk_in v) r.0
     (walk_of r.1 (held_after r.0 v.held))) (sym e) (turn-turns _ _ _ n p.walk (rw (← e) q))
 
-last-ended : (b : Bool) (t r : ℕ) → t + last_tick b + r + 0 ≡ t + r + last_tick b
-last-ended = omega arith
-
 module _ (v : HeldScan) (x : PartitionScan) (p : IsHeldScan v) (q : IsPlace x) where
   -- a turn of a HeldScan is one step of its walk
   stepped : (t : Option Turn) (w : HeldScan) → Steps t → w.walk ≡ x → w.ticks ≡ v.ticks + 1
@@ -115,7 +102,7 @@ module _ (v : HeldScan) (x : PartitionScan) (p : IsHeldScan v) (q : IsPlace x) w
 pub held-turn : {v : HeldScan} (next : Option Held) {t : Option Turn}
     {x : PartitionScan} {w : HeldScan} → IsHeldScan v → ShowsNext v.held next
     → (t, x) ≡ turn_of v.walk next → IsPlace x → w ≡ counted t (record v { walk = x }) → Turns v t w
-held-turn {v} next {t} {x} p n e q h = rw h (turned v x p q t (walked v next t x p n e q))
+held-turn {v} next {t} {x} p n e q h = rw h (turned v x p q t (walked v _ t x p n e q))
 
 ticked : (v w : HeldScan) (t : Option Turn) → Steps t → Turns v t w → w.ticks ≡ v.ticks + 1
 ticked = search rules
@@ -138,11 +125,11 @@ start-held = search rules
 pub keeps-step : (u v w : HeldScan) (t : Option Turn) → Steps t → KeepsGaps u v → Turns v t w
     → KeepsGaps u w
 keeps-step u v w t s k h =
-    let l = step-keeps (walk_in v) t (walk_in w) s h.turns in
+    let l = step-keeps (walk_in v) t _ s h.turns in
     record {
       walk = h.walk;
       gaps_are = ap runs l.left_is ∙ k.gaps_are;
       bound_is = h.bound_is ∙ k.bound_is;
       onward = search (rules, ticked);
-      ahead = ahead-trans _ (walk_in v) _ k.ahead l.ahead;
+      ahead = ahead-trans _ _ _ k.ahead l.ahead;
     }

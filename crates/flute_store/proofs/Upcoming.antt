@@ -111,7 +111,7 @@ behind-first w e es h p s =
 pub ahead-trans : (u v w : Walk) → IsAhead u v → IsAhead v w → IsAhead u w
 ahead-trans u v w a b = record {
   passed = a.passed ++ b.passed;
-  held_is = rw (a.held_is, b.held_is, ← append_assoc a.passed b.passed _);
+  held_is = rw (a.held_is, b.held_is, ← append_assoc a.passed _ _);
   onward = omega arith;
   partition_is = search rules;
 }

@@ -32,7 +32,7 @@ wants-same = search rules
 
 pub gaps-same : (F G : List Fact) (key : Key) (info : Information) → Same F G
     → gaps F key info ≡ gaps G key info
-gaps-same F G key info h = rw (wants-same F G key info h)
+gaps-same F G key info h = rw (wants-same F G key _ h)
 
 -- an object is whole where it has no gap
 

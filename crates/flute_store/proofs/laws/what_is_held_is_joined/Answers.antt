@@ -13,9 +13,9 @@ joined_again old other left above below =
     let both = old ++ other in
     let nothing : Below [] old = record { each = λ a. refl } in
     Same-from_Below _ _ (Below-trans (left ++ other) _ _
-    (Below-append left _ other both below (Below-append [] old _ other nothing (Below-itself _)))
-    (Below-from_Same (both ++ both) both (Same-twice _)))
-    (Below-append old left _ other above (Below-itself _))
+    (Below-append left _ _ both below (Below-append [] _ _ other nothing (Below-itself _)))
+    (Below-from_Same (both ++ both) _ (Same-twice _)))
+    (Below-append old _ _ other above (Below-itself _))
 
 has_cell : (held : List Fact) (f : Fact) → fact_at held (address f) ≢ None → HasCell held f
 has_cell = search rules

@@ -11,7 +11,7 @@ use Rattle.flute_store.proofs.object.join_symbols.Goals as goal
 
 pub returns-in-Some-clause-full : goal.returns-in-Some-clause-full
 returns-in-Some-clause-full g c = λ e. let full = c.join_with.ensures.full.0 e in rw c.in-Some.is
-    (full-beyond symbols_joined c.args.symbols.now _ (update_cell c.in-Some.update) _ full.0 full.1)
+    (full-beyond symbols_joined _ _ (update_cell _) _ full.0 full.1)
 
 pub returns-in-Some-clause-room : goal.returns-in-Some-clause-room
 returns-in-Some-clause-room g c = λ not_full. let es = c.args.symbols.now in

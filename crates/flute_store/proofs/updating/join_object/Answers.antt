@@ -3,7 +3,7 @@ use Rattle.std.proofs.Common.{rules}
 use Rattle.std.proofs.Common.{◌≡◌, ◌<◌, ℕ, [], length, bytes_eq, sym, ap, ◌∙◌, lit<, subst, arith}
 use Rattle.std.proofs.Common.{inl, inr}
 use Rattle.flute_store.proofs.Common
-use Common.{is_at, set_value, on_ok_weaker, on_err_weaker, err_from_is_err_and, set_value_same}
+use Common.{set_value, on_ok_weaker, on_err_weaker, err_from_is_err_and, set_value_same}
 use Common.{single_held, added_joins, each-value_at, object_cmp, symbol_id_cmp, object_total}
 use Common.{same_information, cell_join, nothing_join, Absent, Object, object_join}
 use Common.{object_join_laws, symbols_join, update_object, IsObject, ObjectBeyond}
@@ -15,33 +15,31 @@ pub join_update-requires : goal.join_update-requires
 join_update-requires g c = (
   lit< tt,
   (
-    (each-value_at object_cmp IsObject _
-        c.args.key c.in-Some.held.now c.requires.each (sym c.in-Some.ensures.value)).symbols_are,
+    (each-value_at object_cmp _ _ c.args.key c.in-Some.held.now
+        c.requires.each (sym c.in-Some.ensures.value)).symbols_are,
     c.requires.update,
   ),
 )
 
 pub returns-in-Some-clause-err : goal.returns-in-Some-clause-err
 returns-in-Some-clause-err g c = on_err_weaker c.join_update.result (λ p. ap
-    (set_value (is_at (object_cmp c.args.key)) c.args.objects.now) p ∙ set_value_same
-    (is_at (object_cmp c.args.key)) c.args.objects.now c.in-Some.held.now
+    (set_value _ c.args.objects.now) p ∙ set_value_same _ c.args.objects.now _
     (sym c.in-Some.ensures.value)) c.join_update.ensures.err
 
 pub returns-in-Some-clause-ok : goal.returns-in-Some-clause-ok
 returns-in-Some-clause-ok g c =
     let es = c.args.objects.now in
-    on_ok_weaker c.join_update.result (λ p. ap (set_value (is_at (object_cmp c.args.key)) es) p ∙
-    sym (single_held object_total (object_join_laws _) es c.args.key _
-    (update_object c.args.update.now) c.in-Some.ensures.ordered (sym c.in-Some.ensures.value)))
+    on_ok_weaker c.join_update.result (λ p. ap (set_value _ es) p ∙ sym (single_held object_total
+    (object_join_laws _) _ c.args.key _ _ c.in-Some.ensures.ordered (sym c.in-Some.ensures.value)))
     c.join_update.ensures.ok
 
 pub returns-in-Some-clause-full : goal.returns-in-Some-clause-full
 returns-in-Some-clause-full g c = λ e. inr (held-beyond (objects_joined g.row.SYMBOLS)
-    c.args.objects.now c.args.key (update_object _) ObjectBeyond
+    _ c.args.key _ ObjectBeyond
     c.in-Some.ensures.ordered (sym c.in-Some.ensures.value) (c.join_update.ensures.full e))
 
 pub returns-in-Some-clause-room : goal.returns-in-Some-clause-room
-returns-in-Some-clause-room g c = λ n. held-sound (objects_joined g.row.SYMBOLS) (record {
+returns-in-Some-clause-room g c = λ n. held-sound (objects_joined _) (record {
   ordered = c.in-Some.ensures.ordered;
   within = c.in-Some.ensures.within;
   each = c.requires.each;

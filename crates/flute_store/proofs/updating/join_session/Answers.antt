@@ -4,9 +4,9 @@ use Rattle.flute_store.proofs.Maps.{Objects}
 use Rattle.std.proofs.Common.{◌≡◌, ◌<◌, ℕ, [], ◌∷◌, length, sym, ap, ◌∙◌, lit<, subst, arith}
 use Rattle.std.proofs.Common.{inl, inr}
 use Rattle.flute_store.proofs.Common
-use Common.{is_at, set_value, on_ok_weaker, on_err_weaker, err_from_is_err_and, set_value_same}
+use Common.{set_value, on_ok_weaker, on_err_weaker, err_from_is_err_and, set_value_same}
 use Common.{single_held, added_joins, each-value_at, object_cmp, session_cmp}
-use Common.{session_total, nothing_join, object_join, session_join, session_laws}
+use Common.{session_total, nothing_join, session_join, session_laws}
 use Common.{update_object, IsSession, SessionBeyond}
 use Rattle.flute_store.proofs.OnePair.{sessions_joined, has-room, held-sound, new-sound}
 use Rattle.flute_store.proofs.OnePair.{full-beyond, held-beyond, new-beyond}
@@ -20,26 +20,23 @@ join_object-requires g c =
 
 pub returns-in-Some-clause-err : goal.returns-in-Some-clause-err
 returns-in-Some-clause-err g c = on_err_weaker c.join_object.result (λ p. ap
-    (set_value (is_at (session_cmp c.args.key.now.session)) c.args.sessions.now) p ∙ set_value_same
-    (is_at (session_cmp c.args.key.now.session)) c.args.sessions.now c.in-Some.held.now
+    (set_value _ c.args.sessions.now) p ∙ set_value_same _ c.args.sessions.now _
     (sym c.in-Some.ensures.value)) c.join_object.ensures.err
 
 pub returns-in-Some-clause-ok : goal.returns-in-Some-clause-ok
 returns-in-Some-clause-ok g c =
     let es = c.args.sessions.now in
-    on_ok_weaker c.join_object.result (λ p. ap
-    (set_value (is_at (session_cmp c.args.key.now.session)) es) p ∙ sym (single_held session_total
-    (session_laws g.row.SYMBOLS) es c.args.key.now.session c.in-Some.held.now
-    ((c.args.key.now.object, update_object {n = g.row.SYMBOLS} c.args.update.now) ∷ [])
-    c.in-Some.ensures.ordered (sym c.in-Some.ensures.value))) c.join_object.ensures.ok
+    on_ok_weaker c.join_object.result (λ p. ap (set_value _ es) p ∙ sym (single_held session_total
+    (session_laws _) es _ c.in-Some.held.now _ c.in-Some.ensures.ordered
+    (sym c.in-Some.ensures.value))) c.join_object.ensures.ok
 
 pub returns-in-Some-clause-full : goal.returns-in-Some-clause-full
 returns-in-Some-clause-full g c = λ e. inr (held-beyond (sessions_joined _) c.args.sessions.now
-    c.args.key.now.session _ (SessionBeyond _) c.in-Some.ensures.ordered
+    _ _ (SessionBeyond _) c.in-Some.ensures.ordered
     (sym c.in-Some.ensures.value) (c.join_object.ensures.full e))
 
 pub returns-in-Some-clause-room : goal.returns-in-Some-clause-room
-returns-in-Some-clause-room g c = λ n. held-sound (sessions_joined g.row.SYMBOLS) (record {
+returns-in-Some-clause-room g c = λ n. held-sound (sessions_joined _) (record {
   ordered = c.in-Some.ensures.ordered;
   within = c.in-Some.ensures.within;
   each = c.requires.each;
@@ -51,7 +48,7 @@ returns-then-len-clause-full g c = λ _. inl (full-beyond (sessions_joined _) _ 
     (sym c.in_default.ensures.value) (search rules))
 
 made : (n : ℕ) (m w : Objects n) → m ≡ [] → session_join m w ≡ w
-made n m w p = rw (p, nothing_join object_cmp object_join w)
+made n m w p = rw (p, nothing_join object_cmp _ w)
 
 pub returns-in_err-join_object-clause-full : goal.returns-in_err-join_object-clause-full
 returns-in_err-join_object-clause-full g c =

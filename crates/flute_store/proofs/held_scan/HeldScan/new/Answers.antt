@@ -6,6 +6,6 @@ pub returns-clause-start : goal.returns-clause-start
 returns-clause-start c = rw (c.new.ensures.start c.new-2.result, c.new-2.ensures)
 
 pub returns-clause-walk : goal.returns-clause-walk
-returns-clause-walk c = start-held c.args.info.now c.args.symbols _
+returns-clause-walk c = start-held c.args.info.now _ _
     (c.new.ensures.start _ ∙ ap (at_start _) c.new-2.ensures)
     c.new.ensures.place c.requires.ordered c.requires.known c.requires.few

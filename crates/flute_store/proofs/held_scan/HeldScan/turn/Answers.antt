@@ -1,7 +1,8 @@
 use Rattle.std.proofs.Common.{rules}
 use Rattle.flute_store.proofs.Common.{ShowsNext}
 use Rattle.flute_store.proofs.Turns.{held-turn}
-use Rattle.flute_store.proofs.held_scan.HeldScan.turn.Goals.{in-Some+in-Some-value, in-Some+in-None-value}
+use Rattle.flute_store.proofs.held_scan.HeldScan.turn.Goals.{in-Some+in-Some-value}
+use Rattle.flute_store.proofs.held_scan.HeldScan.turn.Goals.{in-Some+in-None-value}
 use Rattle.flute_store.proofs.held_scan.HeldScan.turn.Goals.{in-None}
 use Rattle.flute_store.proofs.held_scan.HeldScan.turn.Goals as goal
 

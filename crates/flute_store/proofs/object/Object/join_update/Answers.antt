@@ -17,9 +17,9 @@ sound n x update some are = record {
 pub returns-in_err-join_symbols-clause-room : goal.returns-in_err-join_symbols-clause-room
 returns-in_err-join_symbols-clause-room g c =
     let refused = err_from_is_err_and c.from_residual.result c.from_residual.ensures.1 in
-    rw (refused.1, refused.2) (λ n. sound _ c.args.self.now c.args.update.now
+    rw (refused.1, refused.2) (λ n. sound _ c.args.self.now _
     c.requires.update.some (c.in_err-join_symbols.ensures.room n))
 
 pub returns-in-Absent-clause-room : goal.returns-in-Absent-clause-room
-returns-in-Absent-clause-room g c = λ n. sound _ c.args.self.now c.args.update.now
+returns-in-Absent-clause-room g c = λ n. sound _ c.args.self.now _
     c.requires.update.some (c.in_ok-join_symbols.ensures.room (λ e. cc))

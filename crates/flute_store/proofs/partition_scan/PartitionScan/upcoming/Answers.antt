@@ -23,7 +23,7 @@ pub returns-else-self-blocks : goal.returns-else-self-blocks
 returns-else-self-blocks c = search (rules, at-block_end)
 
 pub returns-in_default : goal.returns-in_default
-returns-in_default c = rw c.in_default.is (at-inside c.args.self.now None c.if-self.false)
+returns-in_default c = rw c.in_default.is (at-inside c.args.self.now _ c.if-self.false)
 
 pub returns-in-Less : goal.returns-in-Less
 returns-in-Less c = rw c.in-Some.is

@@ -1,6 +1,7 @@
 use Rattle.std.proofs.Common.{rules}
 use Rattle.flute_store.proofs.ScanSteps.{part-of}
-use Rattle.flute_store.proofs.scan.ObjectScan.next.Goals.{in-Some-default-Some, in-Some-default-None}
+use Rattle.flute_store.proofs.scan.ObjectScan.next.Goals.{in-Some-default-Some}
+use Rattle.flute_store.proofs.scan.ObjectScan.next.Goals.{in-Some-default-None}
 use Rattle.flute_store.proofs.scan.ObjectScan.next.Goals.{in-None}
 use Rattle.flute_store.proofs.scan.ObjectScan.next.Goals as goal
 

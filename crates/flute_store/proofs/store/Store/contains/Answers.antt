@@ -7,11 +7,11 @@ use Rattle.flute_store.proofs.store.Store.contains.Goals as goal
 
 pub returns-in_default : goal.returns-in_default
 returns-in_default g c = rw (← c.self.view_is)
-    (sym (no_session c.self.invariant c.args.address.now (sym c.in_default.ensures.value)))
+    (sym (no_session c.self.invariant _ (sym c.in_default.ensures.value)))
 
 pub returns-in_default-get : goal.returns-in_default-get
 returns-in_default-get g c = rw (← c.self.view_is) (sym (no_object c.self.invariant
-    c.args.address.now (sym c.in-Some.ensures.value) (sym c.in_default-get.ensures.value)))
+    _ (sym c.in-Some.ensures.value) (sym c.in_default-get.ensures.value)))
 
 pub returns-after-matches : goal.returns-after-matches
 returns-after-matches g c =

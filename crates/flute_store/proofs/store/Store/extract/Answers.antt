@@ -13,13 +13,13 @@ returns-in-Some-next-clause-bytes g c = (
     info_is = c.in-One.is;
     held_is = c.iter.ensures.rest;
     gaps_are = c.new-gaps.ensures.gaps;
-  }) c.in-Some-next.gap c.next.new.self.gaps c.in-Some-next.ensures.steps,
+  }) c.in-Some-next.gap _ c.in-Some-next.ensures.steps,
   refl,
 )
 
 pub write-requires-clause-whole : goal.write-requires-clause-whole
 write-requires-clause-whole g c = ap all_left c.new-walk.ensures.start ∙ left-start c.in-One.info
-    _ ∙ none-wanted c.in-One.info c.new-gaps.ensures.gaps
+    _ ∙ none-wanted _ c.new-gaps.ensures.gaps
     c.in_default-next.ensures.steps.0 c.iter.ensures.rest c.iter-2.ensures.rest
 
 pub returns-in-Ok-clause-bytes : goal.returns-in-Ok-clause-bytes

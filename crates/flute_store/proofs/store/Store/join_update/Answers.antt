@@ -32,7 +32,8 @@ returns-clause-full g c =
           (solid-one g.row.SYMBOLS c.args.key.now c.args.update.now c.requires)
           (c.join_session.ensures.full e),
       λ over. is_full c.join_session.result (λ h. let r =
-          c.join_session.ensures.room h in not_over g.row.SESSIONS g.row.OBJECTS (store_join old one)
+          c.join_session.ensures.room h in not_over g.row.SESSIONS g.row.OBJECTS (store_join old
+          one)
           (record { ordered = r.ordered; within = r.within; each = r.each }) (Over-below _ _ _ _ _
           (Below-from_Same
           _ _ (Same-sym _ _ (content-join old one (ordered-store _ _ _ c.self.invariant) ordered)))

@@ -13,4 +13,4 @@ returns-clause-rising g c = rw (c.new-objects.ensures, c.iter.ensures.rest) (key
 
 pub returns-clause-held : goal.returns-clause-held
 returns-clause-held g c = rw (c.new-objects.ensures, c.iter.ensures.rest, ← c.self.view_is)
-    (keys_held g.row.SESSIONS g.row.OBJECTS _ c.self.invariant)
+    (keys_held g.row.SESSIONS _ _ c.self.invariant)

@@ -1,5 +1,5 @@
 -- Store::status: its loop adds up the symbols of the gaps, by reason.
-use Rattle.flute_store.proofs.{Common.{flat_map, listed}, Runs.{runs-are}}
+use Rattle.flute_store.proofs.{Common.{flat_map}, Runs.{runs-are}}
 use Rattle.flute_store.proofs.HowMany
 use HowMany.{counts-all, counts-few, counts-more, counts-none, few-wanted, first-gap, store-status}
 use Rattle.flute_store.proofs.store.Store.status.Goals as goal
@@ -29,9 +29,8 @@ loop-gap-preserved g c =
     let f = first-gap _ _ _ _ _ c.in-Some-next.ensures.steps c.loop-gap.invariant.0
     c.loop-gap.invariant.1 in (
       f.runs_are,
-      counts-more c.in-Some-next.gap c.loop-gap.wanted _
-          (flat_map listed c.new-gaps.result.gaps) (flat_map listed c.next.new.self.gaps) f.counted
-          c.add.ensures,
+      counts-more _ c.loop-gap.wanted _ _
+          (flat_map _ c.next.new.self.gaps) f.counted c.add.ensures,
     )
 
 pub returns : goal.returns

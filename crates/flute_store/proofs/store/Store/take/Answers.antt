@@ -7,7 +7,7 @@ use Rattle.flute_store.proofs.store.Store.take.Goals as goal
 
 pub returns-in-Err-clause-full : goal.returns-in-Err-clause-full
 returns-in-Err-clause-full g c =
-    let none = facts-refused c.args.sender c.args.datagram.now _ c.in-Err.ensures.refused.applies in
+    let none = facts-refused c.args.sender _ _ c.in-Err.ensures.refused.applies in
     rw (← c.self.view_is) (
       (λ e. cc),
       (λ over. absurd
@@ -19,8 +19,7 @@ returns-in-Err-clause-held g c = λ p s h. let e = (c.in-Err.ensures.packet p).1
 
 pub returns-in-Ok-take_packet-clause-ok : goal.returns-in-Ok-take_packet-clause-ok
 returns-in-Ok-take_packet-clause-ok g c = rw
-    (facts-Spells c.args.sender c.args.datagram.now _ c.in-Ok.ensures.spelled)
-    c.in-Ok-take_packet.ensures.ok
+    (facts-Spells c.args.sender _ _ c.in-Ok.ensures.spelled) c.in-Ok-take_packet.ensures.ok
 
 pub returns-in-Ok-take_packet-clause-key : goal.returns-in-Ok-take_packet-clause-key
 returns-in-Ok-take_packet-clause-key g c =
@@ -30,8 +29,7 @@ returns-in-Ok-take_packet-clause-key g c =
 
 pub returns-in-Ok-take_packet-clause-number : goal.returns-in-Ok-take_packet-clause-number
 returns-in-Ok-take_packet-clause-number g c = rw
-    (facts-Spells c.args.sender c.args.datagram.now _ c.in-Ok.ensures.spelled)
-    c.in-Ok-take_packet.ensures.number
+    (facts-Spells c.args.sender _ _ c.in-Ok.ensures.spelled) c.in-Ok-take_packet.ensures.number
 
 pub returns-in-Ok-take_packet-clause-full : goal.returns-in-Ok-take_packet-clause-full
 returns-in-Ok-take_packet-clause-full g c = rw
@@ -45,16 +43,15 @@ returns-in-Err-Full-clause-full g c =
     (λ e. full, λ over. refl)
 
 pub returns-in-Err-Full-clause-held : goal.returns-in-Err-Full-clause-held
-returns-in-Err-Full-clause-held g c = rw
-    (facts-Spells c.args.sender c.args.datagram.now _ c.in-Ok.ensures.spelled)
+returns-in-Err-Full-clause-held g c = rw (facts-Spells c.args.sender _ _ c.in-Ok.ensures.spelled)
     (λ p s h. let e = c.in-Err-Full.ensures.held h in cc)
 
 pub returns-in-Err-OutOfMemory-clause-full : goal.returns-in-Err-OutOfMemory-clause-full
 returns-in-Err-OutOfMemory-clause-full g c = rw
-    (facts-Spells c.args.sender c.args.datagram.now _ c.in-Ok.ensures.spelled)
+    (facts-Spells c.args.sender _ _ c.in-Ok.ensures.spelled)
     (λ e. cc, λ over. let full = c.in-Err-OutOfMemory.ensures.full.1 over in cc)
 
 pub returns-in-Err-OutOfMemory-clause-held : goal.returns-in-Err-OutOfMemory-clause-held
 returns-in-Err-OutOfMemory-clause-held g c = rw
-    (facts-Spells c.args.sender c.args.datagram.now _ c.in-Ok.ensures.spelled)
+    (facts-Spells c.args.sender _ _ c.in-Ok.ensures.spelled)
     (λ p s h. let e = c.in-Err-OutOfMemory.ensures.held h in cc)

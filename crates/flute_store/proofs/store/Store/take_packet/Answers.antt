@@ -7,13 +7,13 @@ use Rattle.flute_store.proofs.Refused.{not_full}
 use Rattle.flute_store.proofs.store.Store.take_packet.Goals as goal
 
 pub of_packet-requires : goal.of_packet-requires
-of_packet-requires g c = spelled-size c.requires.read.0 c.args.packet.now c.requires.read.1
+of_packet-requires g c = spelled-size c.requires.read.0 _ c.requires.read.1
 
 pub returns-in_default-clause-full : goal.returns-in_default-clause-full
 returns-in_default-clause-full g c = rw (← c.self.view_is) (
   (λ e. absurd (ok_is_not_err _ _ e)),
   (λ
-      over. absurd (not_over_more g.row.SESSIONS g.row.OBJECTS c.self.inside.sessions c.self.invariant
+      over. absurd (not_over_more g.row.SESSIONS _ c.self.inside.sessions c.self.invariant
       (facts_of _ _) (c.in_default.ensures.nothing _) over)),
 )
 
