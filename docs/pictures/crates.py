@@ -14,7 +14,8 @@ PROGRAM = "flutejoin_cli"
 BESIDE = "flute_memory", "flutejoin_c", "flutejoin_memory", "flutejoin_replicas"
 # The column of a crate that is not in the first one
 COLUMNS = {
-    **{"flute_calls": 1, "flute_output": 1, "flutejoin_c": 1, "flutejoin_replicas": 1},
+    **{"flute_asides": 1, "flute_calls": 1, "flute_output": 1, "flutejoin_c": 1},
+    **{"flutejoin_replicas": 1},
     **{"flute_memory": 2, "flutejoin_memory": 2},
 }
 WIDTH, HIGH, WIDE, STEP = 480, 26, 148, 46

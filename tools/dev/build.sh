@@ -15,7 +15,7 @@ echo "flutejoin: proving and building the program;" \
 # The crates of the program, the lowest first: in this order each is read once, and no pass over all
 # sources comes before.
 libraries='flute_join flute_parts flute_calls flute_wire flute_store flute_journal flute_streams'
-libraries="$libraries flute_output flutejoin flutejoin_line flutejoin_commands"
+libraries="$libraries flute_output flute_asides flutejoin flutejoin_line flutejoin_commands"
 
 # Two jobs for each processor, since one job often waits for a proof of another. rattle itself takes
 # fewer where memory is short.
@@ -27,7 +27,7 @@ build() {
     crate=$1
     shift
     step=$((step + 1))
-    echo "flutejoin: $crate ($step of 13)" >&2
+    echo "flutejoin: $crate ($step of 14)" >&2
     (cd "crates/$crate" && exec rt "$@") >> bin/build.log 2>&1 &
     running=$!
     if ! wait "$running"; then

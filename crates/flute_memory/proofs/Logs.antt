@@ -10,10 +10,11 @@ use Rattle.std.proofs.lemmas.Option.{none-some, same_Some}
 use Rattle.std.proofs.lemmas.List.Elements.{All-nil, All-cons}
 use Rattle.flute_calls.specs.Disks.{Disk, Entry, Held, Touches, Creates, CreatesWithin, Grows, Syncs, Renames, Unlinks, UnlinksWithin, Confirms, HasHad, led_to}
 use Rattle.flute_calls.specs.Moments.{Run, Does, Passes, no_run}
+use Rattle.flute_asides.specs.Asides.{Empties}
 use Rattle.flute_memory.specs.MemoryDisk.{with_name, with_file, empty, unsure, after, next, run_from, run_of, AreUnused, IsOfEarlier}
 use Rattle.flute_memory.specs.MemoryFolders.{led_within, within_from, within, AddsBytes}
 use Rattle.flute_memory.specs.declared.changes.Change.{Change}
-use Rattle.flute_memory.specs.declared.changes.Change.TheVariants.{Made, FolderMade, MadeWithin, Written, Synced, Renamed, Removed, RemovedWithin, Emptied, Confirmed}
+use Rattle.flute_memory.specs.declared.changes.Change.TheVariants.{Made, FolderMade, MadeWithin, Written, Truncated, Synced, Renamed, Removed, RemovedWithin, Emptied, Confirmed}
 
 bytes_same : (a : List ℕ) → bytes_eq a a ≡ true
 bytes_same a = (bytes_eq-Decides a a).1 refl
@@ -70,6 +71,7 @@ below-after (FolderMade name) k d below other = below-with (suc k) name.items (S
     (λ j is. subst (λ i. i < suc k) (sym (same_Some j k is)) (omega arith)) other
 below-after (MadeWithin folder name) k d below other = below-more k (d.names other) (below other)
 below-after (Written file bytes) k d below other = below-more k (d.names other) (below other)
+below-after (Truncated file) k d below other = below-more k (d.names other) (below other)
 below-after (Synced file) k d below other = below-more k (d.names other) (below other)
 below-after (Renamed source target) k d below other =
     below-with (suc k) target.items (d.names source.items).leads (with_name source.items None d.names)
@@ -135,6 +137,8 @@ unused-after (MadeWithin folder name) k d earlier unused =
     (file_unused (suc k) folder _ d.files (omega (arith, earlier)) (unused_later k d unused))
 unused-after (Written file bytes) k d earlier unused =
     file_unused (suc k) file _ d.files (omega (arith, earlier)) (unused_later k d unused)
+unused-after (Truncated file) k d earlier unused =
+    file_unused (suc k) file _ d.files (omega (arith, earlier)) (unused_later k d unused)
 unused-after (Synced file) k d earlier unused =
     file_unused (suc k) file _ d.files (omega (arith, earlier)) (unused_later k d unused)
 unused-after (Renamed source target) k d earlier unused = unused_later k d unused
@@ -189,6 +193,9 @@ pub writes : (d : Disk) (k : ℕ) (bytes : List ℕ) → Grows k bytes d (record
   files = with_file k (record { bytes = (d.files k).bytes ++ bytes; on_disk = false }) d.files;
 })
 writes d k bytes = record { file = file_here k _ d.files; touches = touches d k _ }
+
+pub empties : (d : Disk) (n k : ℕ) → Empties k d (after (Truncated k) n d)
+empties d n k = record { bytes = ap (λ h. h.bytes) (file_here k _ d.files); touches = touches d k _ }
 
 pub syncs : (d : Disk) (n k : ℕ) → Syncs k d (after (Synced k) n d)
 syncs d n k = record { file = file_here k _ d.files; touches = touches d k _ }

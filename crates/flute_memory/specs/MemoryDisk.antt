@@ -6,7 +6,7 @@ use Rattle.std.specs.Bool.{nat_eq}
 use Rattle.flute_calls.specs.Disks.{Disk, Entry, Held, led_to, confirmed}
 use Rattle.flute_calls.specs.Moments.{Run, no_run}
 use Rattle.flute_memory.specs.declared.changes.Change.{Change}
-use Rattle.flute_memory.specs.declared.changes.Change.TheVariants.{Made, FolderMade, MadeWithin, Written}
+use Rattle.flute_memory.specs.declared.changes.Change.TheVariants.{Made, FolderMade, MadeWithin, Written, Truncated}
 use Rattle.flute_memory.specs.declared.changes.Change.TheVariants.{Synced, Renamed, Removed, RemovedWithin}
 use Rattle.flute_memory.specs.declared.changes.Change.TheVariants.{Emptied, Confirmed}
 
@@ -43,6 +43,7 @@ after (Written file bytes) k d = record d {
   files = with_file file (record { bytes = (d.files file).bytes ++ bytes.items; on_disk = false })
       d.files;
 }
+after (Truncated file) k d = record d { files = with_file file empty d.files }
 after (Synced file) k d = record d {
   files = with_file file (record { bytes = (d.files file).bytes; on_disk = true }) d.files;
 }
@@ -85,6 +86,7 @@ LeadsTo change number name target =
 abbrev pub IsOfEarlier : Change → ℕ → Type 0
 IsOfEarlier (MadeWithin folder name) k = folder < k
 IsOfEarlier (Written file bytes) k = file < k
+IsOfEarlier (Truncated file) k = file < k
 IsOfEarlier (Synced file) k = file < k
 IsOfEarlier (RemovedWithin folder name) k = folder < k
 IsOfEarlier (Emptied folder) k = folder < k

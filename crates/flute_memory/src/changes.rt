@@ -17,6 +17,8 @@ pub enum Change {
     MadeWithin { folder: usize, name: Vec<u8> },
     /// A file got these bytes at its end.
     Written { file: usize, bytes: Vec<u8> },
+    /// A file lost all its bytes.
+    Truncated { file: usize },
     /// The disk has all of a file, or of the names in a folder.
     Synced { file: usize },
     /// The file of one name got another.
@@ -145,8 +147,12 @@ pub fn contents(
     Ok(Some(bytes_of(alloc, changes, file)?))
 }
 
-// The bytes of a file after these changes.
-fn bytes_of(alloc: Global, changes: &[Change], file: usize) -> Result<Vec<u8>, AllocError>
+/// The bytes of a file after these changes.
+///
+/// # Errors
+///
+/// `AllocError`.
+pub fn bytes_of(alloc: Global, changes: &[Change], file: usize) -> Result<Vec<u8>, AllocError>
     ensures { IfOk result (λ bytes. bytes.items ≡ ((run_of changes.now).now.files file).bytes) }
 {
     let mut bytes = Vec::new(alloc);
@@ -177,6 +183,10 @@ fn add_bytes(
             file: written,
             bytes: more,
         } if *written == file => bytes.extend_from_slice(more),
+        Change::Truncated { file: emptied } if *emptied == file => {
+            bytes.clear();
+            Ok(())
+        }
         _ => Ok(()),
     }
 }

@@ -26,7 +26,7 @@ mod short_sink;
 mod short_source;
 
 pub use changes::{Change, contents, target};
-pub use memory_calls::{MemoryCalls, OneFolder, OpenFile};
+pub use memory_calls::{MemoryCalls, OneFolder, OpenAside, OpenFile};
 pub use memory_folder::MemoryFolder;
 pub use memory_new_folder::{MemoryFile, MemoryFiles, MemoryNewFolder};
 pub use short_sink::ShortSink;

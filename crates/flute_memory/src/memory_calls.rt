@@ -4,10 +4,13 @@ ghost use Rattle.std.specs.Prelude.{IfOk, OnOk, OnErr};
 ghost use Rattle.flute_calls.specs.Moments.{no_run};
 ghost use Rattle.flute_memory.specs.MemoryDisk.{run_of, leads, AreUnused, IsOfEarlier};
 
+mod asides;
 mod folders;
 
 use crate::changes::{Change, target};
+pub use asides::OpenAside;
 use flute_calls::{CallFault, Calls, FileId, Seen};
+use flute_parts::Failures;
 use std::alloc::Global;
 
 /// How many bytes a write takes at most.
@@ -33,6 +36,8 @@ pub struct MemoryCalls {
     changes: Vec<Change>,
     good: usize,
     bad: usize,
+    /// How often the name of a file that was put aside could not be removed, for contracts alone.
+    stuck: Failures,
     ghost unused: { AreUnused (length changes.items) (run_of changes.items).now },
 }
 
@@ -47,6 +52,7 @@ impl MemoryCalls {
             changes: Vec::new(alloc),
             good: 0,
             bad: 0,
+            stuck: Failures::none(),
         }
     }
 
@@ -69,6 +75,7 @@ impl MemoryCalls {
     // Whether this call may succeed.
     fn turn(&mut self) -> Result<(), CallFault>
         ensures same { self.new.changes ≡ self.old.changes }
+        ensures stuck { self.new.stuck ≡ self.old.stuck }
     {
         if self.good > 0 {
             self.good -= 1;
@@ -87,6 +94,7 @@ impl MemoryCalls {
         ensures noted { OnOk result (self.new.changes.items
             ≡ self.old.changes.items ++ change ∷ []) }
         ensures refused { OnErr result (self.new.changes.items ≡ self.old.changes.items) }
+        ensures stuck { self.new.stuck ≡ self.old.stuck }
     {
         match self.changes.push(change) {
             Ok(()) => Ok(()),

@@ -1,7 +1,11 @@
 //! Where the program puts bytes aside: beside OUT, or in the folder for temporary files.
+ghost use Rattle.std.specs.Prelude.{◌≡◌, IfErr};
+ghost use Rattle.flutejoin.specs.declared.command_fault.CommandFault.TheVariants.{OutOfMemory};
 
 use crate::aside::FileAside;
-use crate::input::{Input, input_of};
+use crate::input::{Input, Reader, input_of};
+use flute_asides::{AsideFile, SystemAsides};
+use flute_output::FileLimit;
 use flute_parts::Failures;
 use flutejoin::{Asides, CommandFault};
 use std::alloc::AllocError;
@@ -37,7 +41,7 @@ impl<'a> Asides for FileAsides<'a> {
 
     type Aside = FileAside<'a>;
 
-    type Input = Input;
+    type Input = Input<'a>;
 
     ghost tells = { λ _. false };
 
@@ -46,22 +50,33 @@ impl<'a> Asides for FileAsides<'a> {
     fn aside(&mut self) -> Result<FileAside<'a>, CommandFault> {
         self.made = self.made.and_one();
         match &self.beside {
-            Some(beside) => FileAside::new(self.rt, beside),
+            Some(beside) => aside_at(self.rt, beside),
             None => match temporary(self.rt) {
-                Ok(prefix) => FileAside::new(self.rt, &prefix),
+                Ok(prefix) => aside_at(self.rt, &prefix),
                 Err(_) => Err(CommandFault::OutOfMemory),
             },
         }
     }
 
-    fn again(&mut self, aside: FileAside<'a>) -> Result<Input, CommandFault> {
-        let Ok(reader) = aside.reader() else {
+    fn again(&mut self, aside: FileAside<'a>) -> Result<Input<'a>, CommandFault> {
+        let Ok(reader) = aside.bytes.into_reader() else {
             return Err(CommandFault::CannotWrite);
         };
-        match input_of(self.rt, reader, 1) {
+        match input_of(self.rt, Reader::Aside(reader), 1) {
             Some(input) => Ok(input),
             None => Err(CommandFault::OutOfMemory),
         }
+    }
+}
+
+// Where bytes are put aside, in a file whose path begins so.
+fn aside_at<'a>(rt: &'a HostRuntime, prefix: &str) -> Result<FileAside<'a>, CommandFault>
+    ensures { IfErr result (λ fault. fault ≡ OutOfMemory) }
+{
+    let limit = FileLimit::of_process(rt);
+    match AsideFile::new(SystemAsides::new(rt), rt.alloc(), limit, prefix) {
+        Ok(bytes) => Ok(FileAside { bytes }),
+        Err(_) => Err(CommandFault::OutOfMemory),
     }
 }
 

@@ -56,8 +56,8 @@ impl<'a> System<'a> {
     }
 }
 
-impl Inputs for System<'_> {
-    type Input = Input;
+impl<'a> Inputs for System<'a> {
+    type Input = Input<'a>;
 
     ghost files = { λ _. None };
 
@@ -67,7 +67,7 @@ impl Inputs for System<'_> {
 
     ghost closed = { λ _. None };
 
-    fn open(&mut self, number: usize, path: &str, among: usize) -> Result<Input, CommandFault> {
+    fn open(&mut self, number: usize, path: &str, among: usize) -> Result<Input<'a>, CommandFault> {
         self.asked = self.asked.and_one();
         let Ok((reader, found)) = reader_at(self.rt, path) else {
             return Err(CommandFault::CannotOpen(number));
@@ -116,7 +116,7 @@ impl<'a> World for System<'a> {
     }
 
     /// Of standard input some may have been read.
-    fn size(&self, _input: &Input) -> Option<u64> {
+    fn size(&self, _input: &Input<'a>) -> Option<u64> {
         self.size
     }
 
@@ -187,7 +187,7 @@ fn not_made(error: io::Error) -> CommandFault
     }
 }
 
-fn reader_at(rt: &HostRuntime, path: &str) -> io::Result<(Reader, Option<Metadata>)> {
+fn reader_at<'a>(rt: &'a HostRuntime, path: &str) -> io::Result<(Reader<'a>, Option<Metadata>)> {
     let (reader, found) = if path == STANDARD {
         let found = fs::metadata(rt, STANDARD_INPUT).ok();
         (Reader::StandardInput(rt.stdin()), found)
