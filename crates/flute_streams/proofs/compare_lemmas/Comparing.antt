@@ -95,7 +95,7 @@ module _ {S T : Type 0} (a : Behaviour S) (b : Behaviour T) where
   new_gave c s t n g = subst (λ h. Gave c s t ([] ++ option_list h)) n.held (g.gave s [] n.passes)
 
   new_few : {A : Type 0} (c : Behaviour A) (s t : A) → GoesOn c s t → 0 + c.most t ≤ c.most s
-  new_few c s t g = omega (arith)
+  new_few c s t g = omega arith
 
   pub counts_first : {s s' : S} {t t' : T} (old : List Row) → IsNew a s → IsNew b t
       → GoesOnBoth a b Same s t s' t' → Counts a b s t s' t' old old None
@@ -143,7 +143,7 @@ module _ {S T : Type 0} (a : Behaviour S) (b : Behaviour T) where
     pub counts_more : (s' : S) (t' : T) {told' : List Row} {row' : Row} → GoesOnBoth a b m.side s t s' t'
         → told' ≡ told ++ to_tell row m.at.key → row' ≡ counted (row_for row m.at.key) m
         → Counts a b s0 t0 s' t' old told' (Some row')
-    counts_more s' t' {told' = told'} {row' = row'} g is r =
+    counts_more s' t' {told'} {row'} g is r =
         let v = gave_on a s0 s s' c.all M.f (first_goes m.side) c.first g.0 M.takes_f in
         let w = gave_on b t0 t t' c.others M.g (second_goes m.side) c.second g.1 M.takes_g in
         let x = after_on a s0 s s' c.all M.f m.at (first_goes m.side) g.0 M.next.at M.some_f M.stays_f v in

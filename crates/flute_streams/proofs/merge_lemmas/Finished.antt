@@ -15,10 +15,10 @@ use Rattle.flute_streams.specs.FirstFaults.{IsStopOf, HasStopped, TellBefore}
 
 pub some_held : (o : Option FactRef) (t : Bool) → t ≡ is_some o → t ≡ true
     → is_some (fact_in o) ≡ true
-some_held = grind (arith)
+some_held = grind arith
 
 pub none_held : (o : Option FactRef) (t : Bool) → t ≡ is_some o → t ≡ false → fact_in o ≡ None
-none_held = grind (arith)
+none_held = grind arith
 
 module _ {S : Type 0} (b : Behaviour S) where
   -- how many facts the stream with this number may still hold
@@ -49,7 +49,7 @@ module _ {S : Type 0} (b : Behaviour S) where
 
   pub read-more : {k : ℕ} {old now new : List S} → ReadOn k old now
       → Advances b k now new (Ok tt) → ReadOn k old new
-  read-more {k = k} {now = now} {new = new} r a = record {
+  read-more {k} {now} {new} r a = record {
     as_many = ap length a.now ∙ length-set now k a.after ∙ r.as_many;
     others = λ j n. others_on k j now new a.after a.now n ∙ r.others j n;
     gave = λ start s F e g. let h = r.gave start s F e g in

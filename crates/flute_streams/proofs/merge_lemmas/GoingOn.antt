@@ -73,7 +73,7 @@ module _ {S : Type 0} (b : Behaviour S) (place : Option Address) where
   -- stream k holds another address: it stays
   pub one_stays : {k : ℕ} {old now : List S} {x : S} → WentSoFar k old now → slice_get now k ≡ Some
       x → address_of (b.held x) ≢ place → WentSoFar (k + 1) old now
-  one_stays {k = k} {old = old} {now = now} {x = x} w is n = record {
+  one_stays {k} {old} {now} {x} w is n = record {
     done = rw (old_more k old now x w.rest is) (subst
         (λ l. GoOnAt b place (take k old ++ x ∷ []) l) (sym (take_more now k x
         (slice_get_within now k x is) ∙ ap (λ y. take k now ++ y ∷ [])
@@ -120,7 +120,7 @@ module _ {S : Type 0} (b : Behaviour S) (place : Option Address) where
   pub one_stops : {k : ℕ} {old now new : List S} {f : LoadFault} → WentSoFar k old now
       → (a : Advances b k now new (Err f)) → address_of (b.held a.before) ≡ place
       → StopAt b place k f old new
-  one_stops {k = k} {old = old} {now = now} {new = new} {f = f} w a p =
+  one_stops {k} {old} {now} {new} {f} w a p =
       let x = a.before in
       let y = a.after in
       let h : k < length now = slice_get_within now k x a.was in

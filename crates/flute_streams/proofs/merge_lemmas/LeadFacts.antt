@@ -100,7 +100,7 @@ over g None (Some f) l h = absurd h
 over g (Some a) (Some f) l h = search (rules, less_up_to)
 
 over_list : (g : Fact) (o : Option Fact) → IsOver g o → StandAfter (address g) (option_list o)
-over_list = grind (arith)
+over_list = grind arith
 
 over_place : (g : Fact) (o : Option Fact) → IsOver g o → address_of o ≢ Some (address g)
 over_place g None h e = cc
@@ -121,7 +121,7 @@ not_before a [] h = tt
 not_before a (f ∷ fs) h = (up_to_less _ h.0, not_before a fs h.1)
 
 suc_is : (j k : ℕ) → suc j ≡ suc k → j ≡ k
-suc_is j k e = omega (arith)
+suc_is j k e = omega arith
 
 zero_apart : (k : ℕ) → suc k ≢ zero
 zero_apart k e = absurd cc

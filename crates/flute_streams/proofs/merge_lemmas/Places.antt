@@ -97,7 +97,7 @@ module _ {S : Type 0} (b : Behaviour S) (streams : List S) where
   pub spelled-at : (k : ℕ) {bytes : List ℕ} → AreSpelled b streams → k < length streams →
       ((s : S) → slice_get streams k ≡ Some s → bytes ≡ b.spelled s) → IsSpelling bytes
       (held_at b streams k)
-  spelled-at k {bytes = bytes} all within spelled =
+  spelled-at k {bytes} all within spelled =
       let x = item_at streams k within in
       let own = all_at (λ s. IsSpelling (b.spelled s) (b.held s)) streams k all x.1 in
       rw (x.1, spelled x.0 x.1) own

@@ -167,6 +167,6 @@ module _ (a : Address) (facts : List Fact) where
   pub comes-behind : {v : Option Fact} (key : Key) (rank higher : ℕ) (o : Option Fact)
       → a ≡ place_at_rank key rank → rank < higher → AllFrom key higher (address_of o)
       → ComesTo a facts v → ComesTo a (facts ++ option_list o) v
-  comes-behind {v = v} key rank higher None e l from h = grind (arith, common_steps)
-  comes-behind {v = v} key rank higher (Some f) e l from h = search
+  comes-behind {v} key rank higher None e l from h = grind (arith, common_steps)
+  comes-behind {v} key rank higher (Some f) e l from h = search
       (rules, behind, comes-elsewhere, apart, up_to_less)

@@ -39,7 +39,7 @@ module _ {S : Type 0} (b : Behaviour S) (key : Key) where
       → ((s : S) → slice_get streams k ≡ Some s → o ≡ address_of (b.held s)) → StandsFrom key
       (slice_index new k) o → OthersStay k ranks new → AreRankedTo k streams ranks → AreRankedTo
       (k + 1) streams new
-  ranked_more k {streams = streams} new o held from stay h = record {
+  ranked_more k {streams} new o held from stay h = record {
     from = λ j s l i. elim (cases_Bool (eqb j k)) [
       | inl e ↦ let same = eqb-true j k e in
           let at = held s (rw same at i) in
@@ -69,14 +69,14 @@ module _ {S : Type 0} (b : Behaviour S) (key : Key) where
   pub passed_elsewhere : {a : Address} (rank k n : ℕ) {known : Bool} {streams : List S}
       {ranks : List ℕ} → a ≡ place_at_rank key rank → AreAbove rank k n ranks
       → AreRankedFrom k known streams ranks → NoneAt b (Some a) k n streams
-  passed_elsewhere {a = a} rank k n {ranks = ranks} at above h j s l r i = elsewhere a key rank
+  passed_elsewhere {a} rank k n {ranks} at above h j s l r i = elsewhere a key rank
       (slice_index ranks j) (b.held s) at (above j l r) (h.from j s (inl l) i).from
 
   -- where the streams from k on have higher ranks, all at the address went on
   pub went_all : (a : Address) {rank k n : ℕ} {known : Bool} {old now : List S} {ranks : List ℕ} → a
       ≡ place_at_rank key rank → AreAbove rank k n ranks → AreRankedFrom k known now ranks → k ≤ n →
       length now ≡ n → WentSoFar b (Some a) k old now → GoOnAt b (Some a) old now
-  went_all a {rank = rank} {k = k} {n = n} {old = old} {now = now} at above h few all went =
+  went_all a {rank} {k} {n} {old} {now} at above h few all went =
       let apart = passed_elsewhere rank k n at above h in
       let more = more_stay b (Some a) (n - k) (omega (arith, few)) (omega (arith, all)) apart went
       in all_went b (Some a) n old now more (omega (arith, all))
@@ -93,7 +93,7 @@ module _ {S : Type 0} (b : Behaviour S) (key : Key) where
       {ranks others : List ℕ} → Reranked k set old new ranks others
       → (now ≡ true → (known ≡ true) × (set ≡ true))
       → AreRankedFrom k known old ranks → AreRankedFrom (k + 1) now new others
-  rest_moved k now {old = old} {new = new} {others = others} m both h = record {
+  rest_moved k now {old} {new} {others} m both h = record {
     from = λ j s w i. elim (cases_Bool (eqb j k)) [
       | inl e ↦ let same = eqb-true j k e in
           let all : now ≡ true = elim w [
@@ -112,7 +112,7 @@ pub stands-ranked : {S : Type 0} (b : Behaviour S) {streams : List S} (key : Key
     {ranks lows : List ℕ} (k : ℕ) {rank : ℕ} → k < length streams → AreRanked b streams key ranks
     lows → slice_index ranks k ≤ rank → rank ≤ slice_index lows (k / 8) → rank ≤ 4294967296 →
     StandsOn b (place_at_rank key rank) streams (first_at k)
-stands-ranked b {streams = streams} key {ranks = ranks} k {rank = rank} within ranked up least few =
+stands-ranked b {streams} key {ranks} k {rank} within ranked up least few =
     let x = item_at streams k within in
     let low = ranked.low k (omega (arith, within, ranked.few)) in
     let same : slice_index ranks k ≡ rank = omega (arith, up, least, low) in
@@ -132,11 +132,10 @@ module _ {S : Type 0} (b : Behaviour S) (streams : List S) (a : Address) where
       length streams → a ≡ place_at_rank key rank → AreAbove rank k (k + n) ranks → AreRanked b
       streams key ranks lows → ComesTo a (heads b (take k streams)) v → ComesTo a
       (heads b (take (k + n) streams)) v
-  comes_passed k zero {v = v} within at above ranked h =
+  comes_passed k zero {v} within at above ranked h =
       let same : k ≡ k + 0 = omega arith in
       rw (← same) h
-  comes_passed k (suc n) {v = v} {rank = rank} {key = key} {ranks = ranks} within at above ranked h
-      =
+  comes_passed k (suc n) {v} {rank} {key} {ranks} within at above ranked h =
       let j = k + n in
       let x = item_at streams j (omega (arith, within)) in
       let before = comes_passed k n (omega (arith, within)) at

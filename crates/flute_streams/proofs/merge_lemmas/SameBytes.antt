@@ -37,7 +37,7 @@ same-more xs ys k within other is =
 pub same-split : (xs ys : List ℕ) (n : ℕ) {a b c d : List ℕ} → length xs ≡ length ys
     → a ≡ take n xs → b ≡ take n ys → c ≡ drop n xs → d ≡ drop n ys
     → bytes_eq xs ys ≡ (bytes_eq a b && bytes_eq c d)
-same-split xs ys n {a = a} {b = b} {c = c} e is_a is_b is_c is_d =
+same-split xs ys n {a} {b} {c} e is_a is_b is_c is_d =
     let long : length (take n xs) ≡ length (take n ys) = omega
     (arith, length-take n xs, length-take n ys, e) in ap (λ l. bytes_eq l ys)
     (sym (take-append-drop n xs)) ∙ ap (bytes_eq (take n xs ++ drop n xs))
@@ -64,7 +64,7 @@ module _ {xs ys us vs : List ℕ} (h : SameFront xs ys us vs) where
   -- a piece more is the same
   pub same-on : {a b c d : List ℕ} (n : ℕ) → a ≡ take n us → b ≡ take n vs
       → c ≡ drop n us → d ≡ drop n vs → bytes_eq a b ≡ true → SameFront xs ys c d
-  same-on {a = a} {b = b} {c = c} {d = d} n is_a is_b is_c is_d same =
+  same-on {a} {b} {c} {d} n is_a is_b is_c is_d same =
       let e = (bytes_eq-Decides a b).0 same in
       let one : us ≡ a ++ c =
       sym (take-append-drop n us) ∙ ap (λ l. l ++ drop n us) (sym is_a)

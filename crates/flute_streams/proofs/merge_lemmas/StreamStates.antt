@@ -58,9 +58,9 @@ counted s o y tally false F h k = k refl
 
 within_same : {s o y : ℕ} (tally : Tally s o y) (within : Bool) {F : List Fact} (G : List Fact)
     → Same F G → IsCounted s o y tally within G → IsWithinLimits s o y F within
-within_same {s = s} {o = o} {y = y} tally true {F = F} G e h =
+within_same {s} {o} {y} tally true {F} G e h =
     λ k. h.within (Over-below F G s o y (Below-from_Same F G e) k)
-within_same {s = s} {o = o} {y = y} tally false {F = F} G e h =
+within_same {s} {o} {y} tally false {F} G e h =
     Over-below G F s o y (Below-from_Same G F (Same-sym F G e)) h
 
 module _ {S : Type 0} (b : Behaviour S) where
@@ -86,7 +86,7 @@ module _ {S : Type 0} (b : Behaviour S) where
       (all_of (givens_at b p runs)) entries →
       (patient ≡ false → Appends w w' (written_up_to entries)) → Stopping patient (starts runs) new
       w w' (Input fault) × OneFails b fault.number fault.fault (starts runs) new
-  at_input = grind (arith)
+  at_input = grind arith
 
   none_collects : Collects [] []
   none_collects = search rules
@@ -287,7 +287,7 @@ module _ {S : Type 0} (b : Behaviour S) where
         -- the write of its entry failed, or after it an input stopped
         pub stop_entry : (patient : Bool) {w'' : Option (List ℕ)} → failed ≡ false
             → AppendsPart w' w'' (entry g) → Stopping patient old now w w'' Write
-        stop_entry patient {w'' = w''} good a =
+        stop_entry patient {w''} good a =
             let bs : List ℕ = without_end state.joined ++ a.part in
             let appended : Appends w w'' bs = Appends-trans w w' w'' (without_end state.joined)
             a.part (whole_yet good) a.appended in stopped_here patient appended
@@ -322,7 +322,7 @@ module _ {S : Type 0} (b : Behaviour S) where
 
       pub stop_end : (patient : Bool) {w'' : Option (List ℕ)} → failed ≡ false
           → AppendsPart w' w'' (end count) → Stopping patient old now w w'' Write
-      stop_end patient {w'' = w''} good a =
+      stop_end patient {w''} good a =
           let bs : List ℕ = without_end state.joined ++ a.part in
           let appended : Appends w w'' bs =
           Appends-trans w w' w'' (without_end state.joined) a.part

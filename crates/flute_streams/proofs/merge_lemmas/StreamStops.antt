@@ -141,7 +141,7 @@ module _ {S : Type 0} (b : Behaviour S) where
       → is_after (Some a) z ≡ false → Each b.knows (starts runs) known
       → fact_at (all_of known) z ≡ fact_at (all_of (givens_at b (Some a) runs)) z
   known_at z [] [] from h k = refl
-  known_at {place = place} {a = a} z (r ∷ runs) (K ∷ known) from h k =
+  known_at {place} {a} z (r ∷ runs) (K ∷ known) from h k =
       let w = from.went in
       let both = all_split (IsNotBefore a) (option_list (b.held r.now)) (heads b (nows runs))
       from.none_before in
@@ -162,7 +162,7 @@ module _ {S : Type 0} (b : Behaviour S) where
   only F K held e c = grind (arith, append-nil)
 
   none_held : (o : Option Fact) (fs : List Fact) → option_list o ++ fs ≡ [] → (o ≡ None) × (fs ≡ [])
-  none_held = grind (arith)
+  none_held = grind arith
 
   known_whole : (place : Option Address) (runs : List (Run S)) (known : List (List Fact)) →
       AllByRecursion (Went b place) runs → heads b (nows runs) ≡ [] → Each b.knows (starts runs)
@@ -241,7 +241,7 @@ module _ {S : Type 0} (b : Behaviour S) where
       {w w' : Option (List ℕ)} (bs : List ℕ) {more : List ℕ} → HoldNone place runs
       → Collects (all_of (givens runs)) M → Appends w w' bs → more ≢ []
       → bs ++ more ≡ spelling M → AppendsPartOf b (starts runs) w w'
-  short_end {place = place} {runs = runs} {M = M} bs {more = more} all c a s e = record {
+  short_end {place} {runs} {M} bs {more} all c a s e = record {
     bytes = bs;
     appended = a;
     no_journal = no_whole_end M bs more c.valid s e;

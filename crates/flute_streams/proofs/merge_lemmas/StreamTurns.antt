@@ -21,7 +21,7 @@ use Rattle.flute_journal.proofs.Public.{Same-crossed, rising-rises}
 -- the value of sized facts is sized
 
 sized_conflict : (key : Key) (part : Part) → IsSized (conflict_in key part)
-sized_conflict = grind (arith)
+sized_conflict = grind arith
 
 sized_joined : (a : Address) (f : Fact) (o : Option Fact) → IsSized f
     → IfSome (joined a (Some f) o) IsSized
@@ -81,8 +81,7 @@ pub taken_same : (fs : List Fact) (g : Fact) → fact_at fs (address g) ≡ Some
 taken_same fs g h = record {
   each = λ b. elim (cases_Bool _) [
     | inl e ↦ let p = address_same (address g) b e in
-        let P : Address → Type 0 = λ x. fact_at (taken_at (address g) fs) x ≡ fact_at
-        (g ∷ []) x in rw (← p) (taken_here _ fs ∙ h ∙ sym (alone-at g _ refl))
+        rw (← p) (taken_here _ fs ∙ h ∙ sym (alone-at g _ refl))
     | inr e ↦ taken_elsewhere _ b fs e ∙ sym (alone-elsewhere g b e)
   ];
 }
@@ -269,7 +268,7 @@ module _ {S : Type 0} (b : Behaviour S) where
 
   taken_split : (a : Address) (o : Option Fact) (fs : List Fact)
       → taken_at a (option_list o ++ fs) ≡ taken_from a o ++ taken_at a fs
-  taken_split = grind (arith)
+  taken_split = grind arith
 
   -- what they give together
   pub given_same : (a : Address) (runs : List (Run S)) → Same (all_of (givens_at (Some a) runs))

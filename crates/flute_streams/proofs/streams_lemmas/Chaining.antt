@@ -54,7 +54,7 @@ chained_many A B x ys = omega (arith, seconds_many A B (taken ys), taken_many ys
 module _ {A B : Type 0} (a : Behaviour A) (b : Behaviour B) (x : A) (ys : List B) (n : ℕ)
     (within : n < length (chained x (taken ys))) (other : ¬ (n ≡ 0)) where
   later : n ≡ suc (n - 1)
-  later = omega (arith)
+  later = omega arith
 
   near : n - 1 < length (taken ys)
   near = omega (arith, seconds_many A B (taken ys))

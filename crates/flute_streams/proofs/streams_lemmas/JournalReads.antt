@@ -138,8 +138,7 @@ with_limit = search rules
 pub gives_on : {limit own : ℕ} {u v w : Option (List ℕ)} {old new : ReaderState Before}
     {F : List Fact} {held o : Option Fact} → IsCalled limit own u v w old new F held (Ok o)
     → GivesOn limit u w new (F ++ option_list held) o
-gives_on {w = w} {old = old} {new = new} {o = o} c =
-    gives _ _ w new _ o (read_on w old new o (with_limit c))
+gives_on {w} {old} {new} {o} c = gives _ _ w new _ o (read_on w old new o (with_limit c))
 
 -- A call that stops at a fault.
 
@@ -160,7 +159,7 @@ fault_at other c = search (rules, reads-fault, sofar-fault, journal_sound)
 pub stops_on : {limit own : ℕ} {u v w : Option (List ℕ)} {old new : ReaderState Before}
     {F : List Fact} {held : Option Fact} {f : ReadFault} → IsCalled limit own u v w old new F held
     (Err f) → StopsOn limit u w old (F ++ option_list held) f
-stops_on {old = old} c = fault_at _ (with_limit c)
+stops_on {old} c = fault_at _ (with_limit c)
 
 -- a call that gave an entry or the end had no failure
 pub never : (b : Bool) (x y : ℕ) (o : Option Fact) → FailsIf {T = Option Fact} b x y (Ok o) → y ≡ x
@@ -175,7 +174,7 @@ module _ {R : Type 0} (unread : R → Option (List ℕ)) (buffered : R → List 
     since : (s t u : JournalState R) (fault : Option LoadFault) → FailsSince unread buffered
         failures s t None → FailsSince unread buffered failures t u fault → FailsSince unread
         buffered failures s u fault
-    since s t u fault h k = grind (arith)
+    since s t u fault h k = grind arith
 
     -- the reader of a stream that has given these facts since it was new was called again
     abbrev Called : JournalState R → JournalState R → JournalState R → List Fact

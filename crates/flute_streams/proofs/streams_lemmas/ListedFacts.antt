@@ -20,12 +20,12 @@ rising_front : (xs ys : List Fact) → IsRising (xs ++ ys) → IsRising xs
 rising_front xs ys r = rises-rising xs (rises_front _ xs ys (rising-rises _ r))
 
 some_of : (P : Fact → Type 0) (o : Option Fact) → AllByRecursion P (option_list o) → IfSome o P
-some_of P o h = grind (arith)
+some_of P o h = grind arith
 
 -- the next fact of a walk
 walked : (r : Option FactRef) (xs ys : List Fact) → YieldsFact (λ (l : List Fact). l) xs r ys →
     (xs ≡ option_list (fact_in r) ++ ys) × (fact_in r ≡ None → ys ≡ []) × IfSome (fact_in r) IsSized
-walked = grind (arith)
+walked = grind arith
 
 spells_none : (o : Option Fact) → IsSpelling [] o
 spells_none = search rules

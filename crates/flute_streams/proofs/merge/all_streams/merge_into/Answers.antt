@@ -56,11 +56,10 @@ returns-in-Err g c =
 -- the header could not be written
 pub returns-then-not-patient : goal.returns-then-not-patient
 returns-then-not-patient g c =
-    let s = stop_header g.G.Streams.behaviour c.args.patient (g.G.Streams.streams c.args.streams.now)
-    (g.G.Streams.streams c.advance_at.new.streams) c.requires.new c.in_default.ensures.go_on
-    (puts-part c.args.writer.now.failed c.header.new.self.failed _ _ header c.requires.good
-    c.if-writer.true c.header.ensures.puts) in
-    record {
+    let s = stop_header g.G.Streams.behaviour c.args.patient
+    (g.G.Streams.streams c.args.streams.now) (g.G.Streams.streams c.advance_at.new.streams)
+    c.requires.new c.in_default.ensures.go_on
+    (puts-part _ _ _ _ header c.requires.good c.if-writer.true c.header.ensures.puts) in record {
       merged = tt;
       told = tt;
       told_all = tt;
@@ -99,8 +98,7 @@ returns-then-not-patient-2 g c =
     c.in-Some.ensures.stands c.in-Some.ensures.lowest c.write_lowest.ensures.valid
     c.write_lowest.ensures.puts in
     let good = i.eager c.if-not-patient-2.true in
-    let s = stop_entry _ i.state v.lowest v.valid c.args.patient good (puts-part
-    c.loop-lowest.writer.failed c.write_lowest.new.writer.failed _ _ (entry v.value.fact) good
+    let s = stop_entry _ i.state v.lowest v.valid c.args.patient good (puts-part _ _ _ _ (entry v.value.fact) good
     c.if-writer-2.true v.puts.puts) in record {
       merged = tt;
       told = tt;
@@ -204,9 +202,8 @@ pub returns-then-not-patient-3 : goal.returns-then-not-patient-3
 returns-then-not-patient-3 g c =
     let i = c.loop-lowest.invariant in
     let good = i.eager c.if-not-patient-3.true in
-    let s = stop_end _ i.state c.in_default-lowest.ensures.lowest c.args.patient good (puts-part
-    c.loop-lowest.writer.failed c.end.new.self.failed _ _ (end c.loop-lowest.entries) good
-    c.if-writer-3.true c.end.ensures.puts) in record {
+    let s = stop_end _ i.state c.in_default-lowest.ensures.lowest c.args.patient good
+    (puts-part _ _ _ _ (end c.loop-lowest.entries) good c.if-writer-3.true c.end.ensures.puts) in record {
       merged = tt;
       told = tt;
       told_all = tt;

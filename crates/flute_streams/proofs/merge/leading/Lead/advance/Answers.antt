@@ -30,12 +30,9 @@ returns-then-self-clause-go_on g c = search (rules, stands_there, lead-goes)
 
 pub returns-then-self-clause-led : goal.returns-then-self-clause-led
 returns-then-self-clause-led g c =
-    let b = g.G.Streams.behaviour in
-    let new = g.G.Streams.streams c.advance.new.self in
     let unranked = c.requires.led.unranked c.if-self.true in
-    let ranks = c.args.ranks.now in
     record {
-      leads = λ below. still-leads b (c.requires.led.leads c.if-self.true)
+      leads = λ below. still-leads _ (c.requires.led.leads c.if-self.true)
           c.in_default.ensures.advances c.address.ensures (c.is_below-self.ensures below);
       ranking = search rules;
       unranked = λ known. unranked;
