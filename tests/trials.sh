@@ -18,9 +18,9 @@ mkdir "$crate" && cp -R trials "$crate/src" && cp crates.txt "$room" || exit 1
 find "$crate/src" -name '*.trial' | while read -r file; do
     mv "$file" "${file%.trial}.rt"
 done
-libraries='flute_join flute_parts flute_calls flute_output flute_wire flute_store flute_journal'
-libraries="$libraries flute_streams flutejoin flutejoin_line flutejoin_replicas flutejoin_commands"
-libraries="$libraries flutejoin_run flutejoin_memory flute_memory"
+libraries='flute_join flute_parts flute_calls flute_output flute_asides flute_wire flute_store'
+libraries="$libraries flute_journal flute_streams flutejoin flutejoin_line flutejoin_replicas"
+libraries="$libraries flutejoin_commands flutejoin_run flutejoin_memory flute_memory"
 echo "flutejoin_trials: $libraries test_vectors" >> "$room/crates.txt"
 
 (cd "$crate" && rt try --test --seconds 7200) > "$room/told" 2> "$room/faults"
