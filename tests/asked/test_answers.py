@@ -117,7 +117,7 @@ class Answers(AnswerCase):
         done = self.new(self.mark(done))
         every = [change for of in self.told(done).values() for change in of]
         more = {it.key: (it.sums.symbol_count(), it.total, it.is_whole) for it in every}
-        self.holds("what is new", more == {of(1): (3, 8, False), of(3): (22, 22, True)}, more)
+        self.holds("what is new", more == {of(1): (3, 3, True), of(3): (22, 22, True)}, more)
         done = self.new(first)
         self.holds("an older mark is known too", len(self.told(done)) == 1)
         again = [it for of in self.told(self.new(self.mark(done), of(2))).values() for it in of]
@@ -135,6 +135,8 @@ class Answers(AnswerCase):
         (sums,) = self.path(f"news/answer/{mark}").glob("*.sums")
         sums.write_bytes(b"\xff" * sums.stat().st_size)
         self.station.hear(packets([file_of(2)]))
+        self.station.keeper.merge_all()
+        self.station.keeper.merges.finish()
         (changes,) = self.told(self.new(mark)).values()
         self.holds("all is told", [it.key for it in changes] == [of(1), of(2)])
         self.holds("with all sums", all(it.is_whole for it in changes))
@@ -159,7 +161,8 @@ class Answers(AnswerCase):
         self.station.hear(packets([file_of(20)]))
         done = self.ask(NEW)
         self.holds("two journals", len(self.told(done)) == 2)
-        self.station.keeper.promote_all()
+        self.station.keeper.merge_all()
+        self.station.keeper.merges.finish()
         done = self.new(self.mark(done))
         gone = [part for part, _ in self.parts(done) if part.kind == "gone"]
         (changes,) = self.told(done).values()

@@ -6,6 +6,7 @@ import random
 import shutil
 import signal
 import sys
+import time
 from unittest import mock
 
 from flutejoin_tools.centre.house import House
@@ -223,14 +224,15 @@ class Gets(AskedCase):
             station.loss = 0
         self.hear(announced([part]) + part.packets(TSI)[:9], 10**6)
         self.clock.now += 31 * DAY
+        for station in self.stations.values():
+            for path in (station.folder / "journals").iterdir():
+                os.utime(path, (time.time() - 31 * DAY,) * 2)
         self.house()
         self.holds("it is let go", not self.centre.union)
         self.ask()
         self.holds("and not told again", not self.centre.union)
         self.hear(part.packets(TSI)[9:], 10**6)
         self.ask()
-        again = [it for it in self.asked("north") if it.startswith("again ")]
-        self.holds("all of it is asked for", again, self.asked("north"))
         self.holds("it is delivered", [*self.files().values()] == [part.content])
 
     def test_old_files(self) -> None:

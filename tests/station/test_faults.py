@@ -74,9 +74,9 @@ class Faults(Case):
         folder = work / "news"
         journal = folder / f"journals/{NAME}.journal"
         damaged = journal.read_bytes()[:-30]
-        recent = folder / "recent" / journal.name
+        further = folder / f"journals/{NAME}.20990101000000000000.journal"
         run = self.begun(folder, Port().number, "--every", 0.1)
-        recent.write_bytes(damaged)
+        further.write_bytes(damaged)
         datagram_file(folder / f"in/{NAME}.5.fldg", sent[:1])
         self.until(lambda: list((folder / "aside").glob("*.journal")), run)
         run.end()

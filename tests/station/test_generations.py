@@ -368,13 +368,13 @@ class Uplinks(unittest.TestCase):
             keeper.has_more = True
             while keeper.waiting():
                 keeper.work(True)
-        (journal,) = (case.folder / "news/journals").iterdir()
-        self.assertEqual(journal.name, f"{SENDER}.journal")
+        journals = [*(case.folder / "news/journals").iterdir()]
+        form = re.compile(rf"{SENDER}\.(\d{{20}}\.)?journal")
+        self.assertTrue(all(form.fullmatch(path.name) for path in journals))
         self.assertEqual(len(os.listdir(case.folder / "news/in")), 2)
         case.write("all.fldg", datagram_files.content(sent[:24]))
         case.made(["join", "-o", "wanted", "--source", SENDER, "all.fldg"])
-        recent = [*(case.folder / "news/recent").glob("*.journal")]
-        case.made(["join", "-o", "have", journal, *recent])
+        case.made(["join", "-o", "have", *journals])
         self.assertEqual(case.read("have"), case.read("wanted"))
 
 

@@ -1,9 +1,10 @@
-"""Tests how the journals of a station grow: when the small one becomes a part of the large one."""
+"""Tests how the journals of a station grow: what is new is kept, and joined at a given hour."""
 from __future__ import annotations
 
 import time
 
 from datagram_files import HEADER
+from flutejoin_tools.common.shelves import entries_of
 from tests.station.case import (
     NAME,
     TOOLS,
@@ -38,38 +39,29 @@ def time_of_day(seconds: float) -> str:
 
 class Growth(Case):
     def test_growing(self) -> None:
-        """A small journal is joined into the large one at a tenth of it, or at the given hour."""
+        """What is new becomes a journal of its own; all are joined at the given hour."""
         work = self.folder
         folder = work / "news"
         sent = sent_file(work, 400_000, 1000)
-        datagram_file(folder / f"in/{NAME}.fldg", sent[:300])
-        keep(folder)
-        large, recent = folder / f"journals/{NAME}.journal", folder / f"recent/{NAME}.journal"
-        self.holds("the first journal is the large one", large.exists() and not recent.exists())
-        before = large.read_bytes()
-        datagram_file(folder / f"in/{NAME}.fldg", sent[300:320])
-        keep(folder)
-        self.holds("a little is joined beside it", recent.exists() and large.read_bytes() == before)
-        datagram_file(folder / f"in/{NAME}.2.fldg", sent[320:340])
-        keep(folder)
-        self.holds(
-            "a tenth is joined into it", not recent.exists() and large.read_bytes() != before
-        )
-        datagram_file(folder / f"in/{NAME}.2.fldg", sent[340:345])
-        keep(folder)
-        before = large.read_bytes()
+        for number, (begin, end) in enumerate(((0, 300), (300, 320), (310, 340))):
+            datagram_file(folder / f"in/{NAME}.{number + 2}.fldg", sent[begin:end])
+            keep(folder)
+        entries = sorted(entries_of(str(path)) or 0 for path in kept(folder))
+        # Of the second one a single entry, the transmission information, is not new.
+        self.holds("what is new alone", entries == [20, 21, 301], entries)
+        first = folder / f"journals/{NAME}.journal"
+        before = first.read_bytes()
         ahead = work / "ahead"
         ahead.write_text("0")
         code = SET_CLOCK.format(path=str(ahead), tools=str(TOOLS))
         run = self.begun(folder, Port().number, "--nightly", time_of_day(12 * 3600), code=code)
         time.sleep(1)
-        self.holds("before the hour", recent.exists() and large.read_bytes() == before)
+        self.holds("before the hour", len(kept(folder)) == 3 and first.read_bytes() == before)
         ahead.write_text(str(12.1 * 3600))
-        self.until(lambda: not recent.exists(), run)
-        self.holds("at the hour", large.read_bytes() != before)
+        self.until(lambda: len(kept(folder)) == 1, run)
         run.end()
-        datagram_file(work / "all.fldg", sent[:345])
-        self.holds("all is kept", journal_of(*kept(folder)) == journal_of(work / "all.fldg"))
+        datagram_file(work / "all.fldg", sent[:340])
+        self.holds("at the hour", first.read_bytes() == journal_of(work / "all.fldg"))
 
     def test_a_clock_that_is_set_back(self) -> None:
         """The newest datagram files are kept, and the next night is not a year away."""
@@ -93,12 +85,11 @@ class Growth(Case):
         datagram_file(folder / f"in/{NAME}.7.fldg", sent[:4])
         ahead.write_text("3e7")
         code = SET_CLOCK.format(path=str(ahead), tools=str(TOOLS))
-        recent = folder / f"recent/{NAME}.journal"
+        before = len(kept(folder))
         nightly = time_of_day(3e7 + 12 * 3600)
         run = self.begun(folder, port.number, "--nightly", nightly, "--every", 0.1, code=code)
-        self.until(recent.exists, run)
         time.sleep(1)
-        self.holds("a clock set back: before", recent.exists(), run.text())
+        self.holds("a clock set back: before", len(kept(folder)) >= before > 1, run.text())
         ahead.write_text("0")
-        self.until(lambda: not recent.exists(), run)
+        self.until(lambda: len(kept(folder)) == 1, run)
         self.holds("a clock set back: status", run.end() == 1, run.text())

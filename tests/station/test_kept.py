@@ -3,6 +3,7 @@ again. Nothing that was on the disk is lost."""
 from __future__ import annotations
 
 import contextlib
+import itertools
 import json
 import os
 import pathlib
@@ -96,9 +97,10 @@ class Kept(Case):
                 f"{name}: status file", NAME in told["journals"] and told["disk"] > least, told
             )
         for name in names:
+            (work / "alone").write_bytes(journal_of(*kept(work / name)))
             is_whole = flutejoin(
                 "extract", "-o", work / "out", "--source", SOURCE, "--tsi", 7, "--toi", 1,
-                *kept(work / name)[:1],
+                work / "alone",
             )
             self.holds(f"{name}: is not whole alone", is_whole.returncode == 1, is_whole)
         journals = [path for name in names for path in kept(work / name)]
@@ -215,5 +217,6 @@ class Kept(Case):
 
 def has_all(folder: pathlib.Path, name: str, of: list[bytes]) -> bool:
     """Whether the journals of a name have what these datagrams tell, and nothing else."""
-    journals = folder / f"journals/{name}.journal", folder / f"recent/{name}.journal"
-    return journal_of(*journals) == journal_of(datagram_file(folder.parent / "wanted.fldg", of))
+    journals = folder.glob(f"journals/{name}.journal"), folder.glob(f"journals/{name}.[0-9]*nal")
+    wanted = datagram_file(folder.parent / "wanted.fldg", of)
+    return journal_of(*itertools.chain(*journals)) == journal_of(wanted)

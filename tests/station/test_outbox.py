@@ -8,7 +8,7 @@ import subprocess
 import sys
 from unittest import mock
 
-from flutejoin_tools.common.shelves import bring_to_disk, entries_of
+from flutejoin_tools.common.shelves import copy, entries_of
 from tests.station.case import (
     NAME,
     TOOLS,
@@ -27,7 +27,7 @@ PUSH = ROOT / "examples" / "push.sh"
 OF_60_ENTRIES = f"""
 import os, subprocess, sys
 words = sys.argv[1:]
-if "-o" not in words:
+if "-o" not in words or words[words.index("-o") + 1] == "-":
     os.execv({str(PROGRAM)!r}, [{str(PROGRAM)!r}, *words])
 out = words.index("-o") + 1
 path, words[out] = words[out], words[out] + ".try"
@@ -167,11 +167,11 @@ class Outbox(Case):
         pushed: list[str] = []
         of_folder = keeper(folder, has_outbox=True)
 
-        def push_at_once(path: str) -> None:
-            bring_to_disk(path)
-            if "/outbox/" in path and not pushed:
-                pushed.append(path)
-                os.unlink(path)
+        def push_at_once(path: str, to: str) -> None:
+            copy(path, to)
+            if "/outbox/" in to and not pushed:
+                pushed.append(to)
+                os.unlink(to)
 
         with contextlib.ExitStack() as patches:
             for number, part in enumerate((sent[:50], sent[50:52], sent[52:56], sent[56:])):
@@ -180,7 +180,7 @@ class Outbox(Case):
                     self.holds(
                         "a push meanwhile: two journals", len(kept(folder)) == 2, kept(folder)
                     )
-                    name = "flutejoin_tools.station.keeping.bring_to_disk"
+                    name = "flutejoin_tools.station.keeping.copy"
                     patches.enter_context(mock.patch(name, push_at_once))
                 while of_folder.waiting():
                     of_folder.work(False, has_patience=False)

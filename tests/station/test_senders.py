@@ -13,7 +13,7 @@ import socket
 import struct
 import sys
 import unittest
-from typing import Any, Callable, Iterable, Iterator
+from typing import IO, Any, Callable, Iterable, Iterator
 from unittest import mock
 
 import datagram_files
@@ -66,14 +66,14 @@ class Faked(Program):
         self.asked: list[str] = []
         self.takes = takes
 
-    def join(self, source: bytes, out: str, *_: object, **more: object) -> Answer:
-        self.asked.append(os.path.basename(out))
+    def join(
+        self, source: bytes, out: str | IO[bytes], *_: object, **more: object
+    ) -> Answer:
+        assert not isinstance(out, str)
+        self.asked.append(os.path.basename(out.name))
         self.takes()
-        pathlib.Path(out).write_bytes(b"FLJN\0\2\xff" + bytes(8))
+        out.write(b"FLJN\0\2\xff" + bytes(8))
         return Answer(0, "", b"datagrams 1\nrefused 0\nentries 1\n")
-
-    def compare(self, kept: str, new: str) -> Iterator[bytes]:
-        return iter(())
 
 
 class Case(run.Case):
@@ -115,8 +115,7 @@ class Case(run.Case):
 
     def journals(self, name: str = REAL) -> list[str]:
         """The journals of a sender that are there."""
-        paths = [self.news / folder / f"{name}.journal" for folder in ("journals", "recent")]
-        return [str(path) for path in paths if path.exists()]
+        return [str(path) for path in (self.news / "journals").glob(f"{name}.*journal")]
 
     def lines(self, text: str) -> list[str]:
         return [line for line in self.told.printed if text in line]
@@ -358,8 +357,9 @@ class Restart(Case):
         keeper = self.keeper()
         keeper.look()
         (sender,) = keeper.incoming.found
-        keeper.set_journal_aside(sender, keeper.large(sender).path_of(1), "damaged")
-        pathlib.Path(keeper.recent(sender).path_of(1)).touch()
+        (journal,) = keeper.kept(sender)
+        keeper.set_journal_aside(sender, journal, "damaged")
+        pathlib.Path(journal).touch()
         self.assertEqual(self.again(), path.stat().st_size - 6)
 
     def test_a_file_that_was_cut(self) -> None:

@@ -14,8 +14,8 @@ NAME = re.compile(
     r"(\d+(?:\.\d+){3}|[\da-f-]+(?:%\w+)?)(?:\.e(\d{1,9}))?(?:\.(\d{1,9}))?\.fldg", re.ASCII
 )
 
-# The name of another file of a sender: of an epoch (`file_name`), a generation or a time
-KEPT = re.compile(r"(.+?)(?:\.e\d+)?(?:\.[gv]\d+|\.\d{20})?\.[a-z]+", re.ASCII)
+# The name of another file of a sender: of an epoch (`file_name`), a generation and a time
+KEPT = re.compile(r"(.+?)(?:\.e\d+)?(?:\.[gv]\d+)?(?:\.\d{20})?\.[a-z]+", re.ASCII)
 
 
 def stem(text: str, epoch: int = 1) -> str:

@@ -133,7 +133,7 @@ class Program:
     def join(
         self,
         source: bytes,
-        out: str,
+        out: Union[str, IO[bytes]],
         inputs: Sequence[str],
         fed: Optional[Iterable[bytes]] = None,
         sessions: Sequence[int] = (),
@@ -141,13 +141,22 @@ class Program:
     ) -> Answer:
         """Runs `flutejoin join` of inputs, of these sessions alone, or of those of all joins.
 
-        What is fed to that run, as its last input, are the pieces of a datagram file.
+        What is fed to that run, as its last input, are the pieces of a datagram file. An output
+        that is an open file is not brought to the disk.
         """
         words = ["join", "--source", source.hex(), "--any-size", *["--no-fdt"] * without_fdt]
         words += [word for tsi in sessions or self.sessions for word in ("--tsi", str(tsi))]
-        words += ["--reasons", "-o", out, *inputs, *["-"] * (fed is not None)]
+        path = out if isinstance(out, str) else "-"
+        words += ["--reasons", "-o", path, *inputs, *["-"] * (fed is not None)]
         given = subprocess.DEVNULL if fed is None else subprocess.PIPE
-        return self.answered(words, given, subprocess.PIPE, fed)
+        return self.answered(words, given, subprocess.PIPE if isinstance(out, str) else out, fed)
+
+    def fed(self, words: Sequence[str], fed: Iterable[bytes], out: IO[bytes]) -> None:
+        """Runs a command that reads pieces on standard input, and writes to a file. Raises Failed.
+        """
+        answer = self.answered(words, subprocess.PIPE, out, fed)
+        if answer.status:
+            raise Failed(answer)
 
     def compare(self, kept: str, new: str) -> Iterator[bytes]:
         """Yields the lines that say how two journals compare in each object. Raises Failed."""
@@ -284,7 +293,7 @@ class Program:
             if status < 0:
                 return Answer(3, f"flutejoin was ended by signal {-status}", signal=-status)
             text = os.fsdecode(told).strip() or f"flutejoin ended with status {status}"
-            return Answer(status, text, out or b"")
+            return Answer(status, text, out or told)  # where the output is that of a join
 
     def tending(self, items: Iterable[T]) -> Iterator[T]:
         """Yields the items, and tends meanwhile."""

@@ -23,7 +23,7 @@ from flutejoin_tools.common.program import Program, find
 from flutejoin_tools.common.signals import answer_stops, end_run, exit_status
 from flutejoin_tools.common.texts import shown
 from flutejoin_tools.exchange import exchange
-from flutejoin_tools.exchange.exchange import ANSWER, MOST_REQUEST, NONE, New, Refused, Want
+from flutejoin_tools.exchange.exchange import ANSWER, KEPT, MOST_REQUEST, NONE, New, Refused, Want
 from flutejoin_tools.exchange.holding import Hold, seconds_asked
 from flutejoin_tools.exchange.marks import Mark, Marks
 from flutejoin_tools.exchange.news import DOCUMENTS, Journal, documents_since, journals_in
@@ -33,6 +33,9 @@ from flutejoin_tools.formats.records import Cut, ReadFault
 from flutejoin_tools.journals import sums
 from flutejoin_tools.journals.holdings import Key
 
+# What a new journal has a part of is told again of old ones, since the centre may have let it go: of
+# journals of so many seconds, with so many bytes of sums, and of objects of so many bytes
+OLD, MOST_AGAIN, MOST_OBJECT = 3600, 1 << 26, 1 << 26
 MOST_TOLD = 1 << 28  # bytes of changes after which no further journal is begun
 MOST_DOCUMENTS = 1 << 26  # bytes of FDT Instances in one answer; the next one has the others
 WAIT = 10  # seconds after which an answer that takes longer says so
@@ -118,9 +121,16 @@ class Answering:
         self.tell_status()
         with self.marks.begin() as made:
             self.tell_documents(old, made)
-            for journal in sorted(journals_in(self.folder), key=Journal.size, reverse=True):
+            found = sorted(journals_in(self.folder), key=Journal.size, reverse=True)
+            again: set[Key] = set()
+            for journal in sorted(found, key=lambda it: it.id in old.journals):  # new ones first
                 try:
-                    self.tell_journal(journal, old, made, request.again)
+                    is_old = time.time() > os.path.getmtime(journal.path) + OLD
+                    is_told = is_old and old.size(journal.id) <= MOST_AGAIN
+                    asked = request.again | again if is_told else request.again
+                    self.tell_journal(journal, old, made, frozenset(asked))
+                    if old.name and journal.id not in old.journals and journal.kind == KEPT:
+                        again |= made.objects(journal.id, MOST_OBJECT)
                 except FileNotFoundError:  # it is joined into another one now
                     pass
                 except (ReadFault, Cut) as fault:

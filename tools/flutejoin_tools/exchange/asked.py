@@ -253,6 +253,8 @@ class Asker:
             lambda change: change.key in over or wanting.is_delivered(change),
             self.deliverer.program.tend,
         )
+        if answer.since != NONE:  # it may have been let go here since it was decided
+            wanting.forget(changed)
         wanting.again -= each.again
         self.note_again(each)
         self.deliverer.dirty |= changed

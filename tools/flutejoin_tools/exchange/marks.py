@@ -17,7 +17,11 @@ import time
 from typing import Any, Iterable, Iterator, List, Optional
 
 from flutejoin_tools.common.file_names import PARTIAL
+from flutejoin_tools.common.shelves import size_of
+from flutejoin_tools.formats.entries import information_of
 from flutejoin_tools.journals import sums
+from flutejoin_tools.journals.holdings import Key
+from flutejoin_tools.journals.sums import NO_INFORMATION
 
 MOST_MARKS = 8  # the newest ones: a centre asks by the last that it has, and there may be several
 NAME = re.compile(r"[0-9a-f]{32}", re.ASCII)
@@ -48,6 +52,19 @@ class Mark:
         if journal in self.journals:
             with open(self.path(journal), "rb") as file:
                 yield from sums.read(file)
+
+    def size(self, journal: str) -> int:
+        """The bytes of what was told of a journal."""
+        return size_of(self.path(journal)) if journal in self.journals else 0
+
+    def objects(self, journal: str, most: int) -> set[Key]:
+        """The objects of a journal that have at most so many bytes, as far as it is known."""
+        found: set[Key] = set()
+        for key, of in self.items(journal):
+            is_known = of.information not in (NO_INFORMATION, sums.DISPUTED)
+            if not is_known or information_of(of.information)[0] <= most:
+                found.add(key)
+        return found
 
     def read(self) -> bool:
         """Reads it. Returns whether it is there, and whole."""

@@ -10,9 +10,8 @@ from typing import Iterable, Iterator, NamedTuple
 
 from flutejoin_tools.common import file_names
 from flutejoin_tools.common.file_names import address_in
-from flutejoin_tools.gather.generations import generation
+from flutejoin_tools.gather.generations import kept_in
 from flutejoin_tools.gather.others import MOST_OTHERS
-from flutejoin_tools.gather.rows import MOST_GENERATIONS
 
 ASIDE, DOCUMENTS = "aside", "fdt"
 
@@ -64,8 +63,8 @@ def siblings(path: str, folder: str) -> Iterator[str]:
     if address is None:
         return
     stem = file_names.stem(str(address))
-    for number in range(1, MOST_GENERATIONS + 1):
-        yield os.path.join(folder, generation(stem, number))
+    for paths in kept_in(folder, stem).values():
+        yield from paths
     for at in os.path.join(folder, ASIDE), os.path.join(folder, os.pardir, ASIDE):
         for number in range(1, MOST_OTHERS + 1):
             yield os.path.join(at, f"{stem}.v{number}.journal")

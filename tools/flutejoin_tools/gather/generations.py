@@ -12,8 +12,9 @@ from __future__ import annotations
 import collections
 import contextlib
 import os
+import re
 from typing import Callable, Collection, Container, Iterable, Iterator, Mapping, NamedTuple
-from typing import Optional
+from typing import Optional, Sequence
 
 from flutejoin_tools.common.file_names import PARTIAL
 from flutejoin_tools.common.program import Answer, Failed
@@ -37,8 +38,10 @@ from flutejoin_tools.gather.rows import (
 from flutejoin_tools.journals import holdings
 from flutejoin_tools.journals.holdings import Copy, Key, key_of
 from flutejoin_tools.journals.merged import merged
+from flutejoin_tools.journals.stretches import stretches
 
 MOST_NAMED = 3  # objects of a kind
+ENDING = ".journal"
 
 # Yields the lines of `flutejoin compare` of two journals; raises Failed
 Compare = Callable[[str, str], Iterator[bytes]]
@@ -114,11 +117,11 @@ def plan_of(
     return plan
 
 
-def differing(kept: str, new: str, keys: set[Key]) -> dict[bytes, set[bytes]]:
-    """The symbols of these objects that have another value in a journal than in what is kept."""
+def differing(journals: Sequence[str], keys: set[Key]) -> dict[bytes, set[bytes]]:
+    """The symbols of these objects of which the journals have several values."""
     found: dict[bytes, set[bytes]] = collections.defaultdict(set)
-    for _, raw, of in merged([kept, new], keys.__contains__):
-        found[raw].update(each.symbol for each in of if len(set(each.values_alone())) == 2)
+    for _, raw, of in merged(journals, keys.__contains__):
+        found[raw].update(each.symbol for each in of if len(set(each.values_alone())) > 1)
     return found
 
 
@@ -150,15 +153,12 @@ class Split:
 
 
 def split(
-    new: str, plan: Plan, kept: dict[int, str], front: str, without: Container[Key]
+    new: str, plan: Plan, others: Mapping[bytes, set[bytes]], front: str, without: Container[Key]
 ) -> Split:
-    """Writes the objects of a plan to journals of their generations.
+    """Writes the objects of a plan to journals of their generations, and other symbols aside.
 
     An entry in conflict has no value, and would spoil one that is kept: it goes nowhere.
     """
-    others: dict[bytes, set[bytes]] = {}
-    for number, keys in plan.with_others.items():
-        others.update(differing(kept[number], new, keys))
     found, last, is_taken, to = Split(front), b"", False, 1
     aside: Optional[set[bytes]] = None
     try:
@@ -188,23 +188,33 @@ class Contents(NamedTuple):
 
 def contents_of(journal: str, known: Collection[Key] = ()) -> Contents:
     """Looks through a journal. `known` are the objects whose transmission information is told."""
-    found, last, key = Contents(set(), set()), b"", None
+    found = Contents(set(), set())
     with open(journal, "rb", buffering=0) as file:
-        for kind, raw, _ in holdings.entries(file):
-            if kind == SYMBOL or kind == INFORMATION and not known:
-                continue
-            if raw != last:
-                last, key = raw, key_of(raw)
-            if key and kind != INFORMATION:
-                found.disputed.add(key)
-            elif key and key in known:
-                found.informed.add(key)
+        for each in stretches(file):
+            if each.kind in (INFORMATION_CONFLICT, SYMBOL_CONFLICT):
+                found.disputed.add(key_of(each.raw))
+            elif each.kind == INFORMATION and known:
+                key = key_of(each.raw)
+                if key in known:
+                    found.informed.add(key)
     return found
 
 
 def generation(stem: str, number: int) -> str:
     """The name of the journal of a generation: 10.0.0.1.journal, then 10.0.0.1.g2.journal."""
     return stem + (f".g{number}" if number > 1 else "") + ".journal"
+
+
+def kept_in(folder: str, stem: str) -> dict[int, list[str]]:
+    """The journals of a sender in a folder, by the numbers of their generations: the first one, and
+    those with a time in their names, the oldest first."""
+    found: dict[int, list[tuple[str, str]]] = collections.defaultdict(list)
+    form = re.compile(re.escape(stem) + r"(?:\.g([2-8]))?(?:\.(\d{20}))?\.journal", re.ASCII)
+    for name in os.listdir(folder) if os.path.isdir(folder) else ():
+        of = form.fullmatch(name) if name.startswith(f"{stem}.") else None
+        if of:
+            found[int(of[1] or 1)].append((of[2] or "", os.path.join(folder, name)))
+    return {number: [path for _, path in sorted(of)] for number, of in sorted(found.items())}
 
 
 class Taken(NamedTuple):
@@ -275,7 +285,10 @@ class Generations:
         if plan.is_plain() and not found.disputed:
             path = self.path_of(1)
             return told._replace(answer=self.bring(new, path, join), path=path)
-        parts = split(new, plan, kept, self.path_of(1), without)
+        others: dict[bytes, set[bytes]] = {}
+        for number, keys in plan.with_others.items():
+            others.update(differing([kept[number], new], keys))
+        parts = split(new, plan, others, self.path_of(1), without)
         return self.bring_parts(parts, plan.replaced, join, told)
 
     def bring_parts(

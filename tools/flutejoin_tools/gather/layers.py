@@ -112,13 +112,15 @@ def pieces_of(
     join: Callable[[str, str], Answer],
     datagrams: Callable[[], Iterable[bytes]],
     known: Collection[Key],
+    found: Optional[Contents] = None,
 ) -> Iterator[Piece]:
     """Yields journals in which nothing is in conflict, of a journal that was joined of datagrams.
 
     The first is that one, without the objects in conflict; `known` are those whose transmission
-    information is told. The others are removed when the next is asked for. Raises Failed.
+    information is told, and `found` is what it has, if somebody looked. The others are removed when
+    the next is asked for. Raises Failed.
     """
-    found = contents_of(new, known)
+    found = found or contents_of(new, known)
     yield Piece(new, found.disputed, found)
     if not found.disputed:
         return

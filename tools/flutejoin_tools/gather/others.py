@@ -23,6 +23,18 @@ class Others:
         self.path_of = path_of
         self.dropped = 0  # values for which there was no room
 
+    def has(self, new: str) -> bool:
+        """Whether each value of a journal is kept already."""
+        paths = [self.path_of(number) for number in range(1, MOST_OTHERS + 1)]
+        journals = [*filter(os.path.exists, paths), new]
+        last = len(journals) - 1
+        for _, _, of in merged(journals, lambda _: True):
+            for each in of:
+                kept = {value for number, value in each.values if number != last}
+                if any(number == last and value not in kept for number, value in each.values):
+                    return False
+        return True
+
     def take(self, new: str) -> None:
         """Adds the values of a journal, each to the first journal that has no other one."""
         rest = new

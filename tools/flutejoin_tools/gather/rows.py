@@ -3,7 +3,7 @@ from __future__ import annotations
 
 import itertools
 import re
-from typing import Container, Iterable, Iterator, NamedTuple, Sequence
+from typing import Container, Iterable, Iterator, NamedTuple, Optional, Sequence
 
 from flutejoin_tools.common.texts import shown
 from flutejoin_tools.formats.records import ReadFault
@@ -81,6 +81,22 @@ def compared(every: Sequence[Iterable[bytes]], without: Container[Key]) -> Itera
             yield [*rows]
 
 
+def united(rows: Iterable[tuple[int, Row]]) -> dict[int, Row]:
+    """How each generation compares, by rows of its journals. What several have counts as often."""
+    found: dict[int, Row] = {}
+    for number, row in rows:
+        one = found.get(number)
+        if one is None:
+            found[number] = row
+            continue
+        same, differ = one.same + row.same, one.differ + row.differ
+        second = max(0, one.second - row.same - row.differ)
+        rank = (NONE, SECOND, FIRST, SAME, DIFFER)
+        information = max(one.information, row.information, key=rank.index)
+        found[number] = Row(row.key, same, differ, one.first + row.first, second, information)
+    return found
+
+
 class Chosen(NamedTuple):
     """Where an object goes."""
 
@@ -88,13 +104,16 @@ class Chosen(NamedTuple):
     replaces: bool = False  # whether it first forgets the object, which was delivered
 
 
-def choose(rows: dict[int, Row], delivered: Iterable[int] = ()) -> Chosen:
-    """The generation with which most symbols of an object agree; else the first that has none of
-    it; else the first of these whose file was delivered."""
+def choose(
+    rows: dict[int, Row], delivered: Iterable[int] = (), last: Optional[int] = None
+) -> Chosen:
+    """The generation with which most symbols of an object agree, of several the one that had some
+    of it `last`; else the first that has none of it; else the first of these whose file was
+    delivered."""
     held = {number: row for number, row in rows.items() if row.is_in_first()}
-    fitting = [(-row.same, number) for number, row in held.items() if row.agrees()]
+    fitting = [(-row.same, number != last, number) for number, row in held.items() if row.agrees()]
     if fitting:
-        return Chosen(min(fitting)[1])
+        return Chosen(min(fitting)[2])
     for number in range(1, MOST_GENERATIONS + 1):
         if number not in held:
             return Chosen(number)

@@ -9,6 +9,7 @@ name. Of such an object all symbols are written, so that flutejoin-gather finds 
 from __future__ import annotations
 
 import io
+import os
 from typing import Dict, Iterable, Iterator, List, NamedTuple, Sequence, Set, Tuple
 
 from flutejoin_tools.common import gaps
@@ -17,6 +18,7 @@ from flutejoin_tools.common.gaps import Numbers
 from flutejoin_tools.common.log import Log
 from flutejoin_tools.common.places import Scratch, scratch_folder
 from flutejoin_tools.common.program import Program
+from flutejoin_tools.common.shelves import NAME
 from flutejoin_tools.fdt.fdt import File
 from flutejoin_tools.files.delivery import Delivery
 from flutejoin_tools.files.session import Described
@@ -37,7 +39,8 @@ OTHERS = "no FDT Instance with an MD5 fits what came"
 
 def generations_beside(journal: str) -> List[str]:
     """The journals of further generations beside one, by its name."""
-    return [path for path in beside([journal]).journals if not is_aside(path)]
+    every = (path for path in beside([journal]).journals if not is_aside(path))
+    return [path for path in every if not NAME.fullmatch(os.path.basename(path))]
 
 
 def fits(file: File, numbers: Numbers) -> bool:

@@ -15,15 +15,16 @@ from flutejoin_tools.common.joining import largest_sessions, write_others
 from flutejoin_tools.common.program import FULL, Answer, Failed, Program
 from flutejoin_tools.common.service_log import ServiceLog
 from flutejoin_tools.common.shell import MOST_INPUTS
-from flutejoin_tools.common.shelves import bring_to_disk, copy, move, remove, size_of
+from flutejoin_tools.common.shelves import begin_file, bring_to_disk, changed_at, copy, remove
+from flutejoin_tools.formats.reading import EMPTY
+from flutejoin_tools.gather.generations import Contents, contents_of
 from flutejoin_tools.gather.layers import pieces_of
 from flutejoin_tools.station.completing import Completing
 from flutejoin_tools.station.incoming import Part, Sender, State
 from flutejoin_tools.station.kept import Kept, Settings
 from flutejoin_tools.station.voice import Counts, line_of
 
-SHARE = 10  # a small journal is joined once the large one has at most so many times its bytes
-MOST_AT_ONCE = 1 << 28  # bytes of the datagram files of one join, which holds them in memory
+MOST_AT_ONCE = 1 << 27  # bytes of the datagram files of one join, which holds them in memory
 AT_A_TIME = 1  # seconds of joins until it is looked again who has most
 
 
@@ -40,17 +41,18 @@ class Keeper(Kept):
             self.kept,
             lambda sender, key: self.documents.known_of(sender.stem()).numbers.get(key),
         )
+        self.handed_on = (self.fresh, settings.delivers), (self.outbox, settings.has_outbox)
         self.has_more = False  # since the last look
         self.is_adopted = False  # what earlier versions left
         self.make_folders()
-        for shelf in self.small, self.journals, self.outbox, self.raw, self.aside, self.fresh:
+        for shelf in self.recent, self.journals, self.outbox, self.raw, self.aside, self.fresh:
             shelf.clear_partial()
         self.raw.trim(settings.keep_raw)
         self.room.look()
 
     def make_folders(self) -> None:
         """Makes the folders that are missing, also if somebody removed them meanwhile."""
-        for path in self.incoming.path, self.small.path, self.journals.path:
+        for path in self.incoming.path, self.recent.path, self.journals.path:
             os.makedirs(path, exist_ok=True)
         if self.settings.has_outbox:
             os.makedirs(self.outbox.path, exist_ok=True)
@@ -74,7 +76,7 @@ class Keeper(Kept):
         if self.has_more:
             self.has_more = self.work_for_a_time(has_patience)
         self.keep_house()
-        return self.has_more
+        return is_receiving and self.merges.tend() or self.has_more
 
     def work_for_a_time(self, has_patience: bool) -> bool:
         began, has_worked, found = time.monotonic(), False, self.incoming.found
@@ -139,18 +141,23 @@ class Keeper(Kept):
         return chosen
 
     def bring(self, sender: Sender, batch: list[Part], sessions: Sequence[int] = ()) -> bool:
-        """Joins datagram files into the small journals of their sender, or these sessions of them.
+        """Joins datagram files into the journals of their sender, or these sessions of them.
 
         Returns whether it did.
         """
         ends = [part.end for part in batch]
-        new = os.path.join(self.small.path, f"{sender.stem()}.new{PARTIAL}")
-        answer = self.join(sender, new, [], batch, sessions=sessions, without_fdt=True)
-        if answer.status:
-            self.answer_fault(sender, batch, answer, sessions)
-            return False
+        new = os.path.join(self.recent.path, f"{sender.stem()}.new{PARTIAL}")
         try:
-            self.keep_instances(sender, batch)
+            with begin_file(new) as out:
+                answer = self.join(sender, out, [], batch, sessions=sessions, without_fdt=True)
+            if answer.status:
+                self.answer_fault(sender, batch, answer, sessions)
+                return False
+            documents = changed_at(self.documents.path)
+            if answer.count("others"):
+                self.keep_instances(sender, batch)
+            if changed_at(self.documents.path) != documents and self.settings.has_outbox:
+                self.hand_on_nothing(sender)
             if not self.take(sender, batch, new):
                 return False
         finally:
@@ -163,12 +170,15 @@ class Keeper(Kept):
         if self.states[sender].succeed(time.monotonic()):
             self.report.warn(f"{sender.stem()}: is joined again")
             self.report.end_fault(sender.stem())
-        recent, large = self.recent(sender), self.large(sender)
-        if SHARE * sum(map(size_of, recent.kept().values())) >= sum(
-            map(size_of, large.kept().values())
-        ):
-            self.promote(sender)
         return True
+
+    def hand_on_nothing(self, sender: Sender) -> None:
+        """Has FDT Instances pushed, which go with journals, also where no symbol is new."""
+        path = self.outbox.next(sender.stem(), ".journal")
+        with begin_file(path + PARTIAL) as out:
+            out.write(EMPTY)
+        os.rename(path + PARTIAL, path)
+        bring_to_disk(path)
 
     def keep_instances(self, sender: Sender, batch: list[Part]) -> None:
         """Keeps the FDT Instances of datagram files, so that these may go."""
@@ -181,7 +191,7 @@ class Keeper(Kept):
             self.documents.left = 0
 
     def take(self, sender: Sender, batch: list[Part], new: str) -> bool:
-        """Takes a journal of datagram files into the small journals; False if that failed.
+        """Takes a journal of datagram files into those that are kept; False if that failed.
 
         Objects of which the files have several values are taken apart before.
         """
@@ -189,21 +199,23 @@ class Keeper(Kept):
         def join(out: str, path: str) -> Answer:
             return self.program.join(sender.address.packed, out, [path], without_fdt=True)
 
+        def hand_on(path: str) -> None:
+            for shelf, is_wanted in self.handed_on:
+                if is_wanted:
+                    copy(path, shelf.next(sender.stem(), ".journal"))
+
         def datagrams() -> Iterator[bytes]:
             for part in batch:
                 yield from self.program.tending(part.fed().datagrams())
 
         known = self.documents.known_of(sender.stem()).numbers
         try:
-            for piece in pieces_of(new, join, datagrams, known):
-                if not self.take_one(sender, piece):
+            found = Contents(set(), set())
+            if known or self.indexes.of(new).has_conflict:
+                found = contents_of(new, known)
+            for piece in pieces_of(new, join, datagrams, known, found):
+                if not self.take_one(sender, piece, hand_on):
                     return False
-                if self.settings.delivers:
-                    copy(piece.path, self.fresh.next(sender.stem(), ".journal"))
-                if self.settings.has_outbox:
-                    kept = self.outbox.next(sender.stem(), ".journal")
-                    move(piece.path, kept)
-                    bring_to_disk(kept)
         except Failed as fault:
             self.wait_for_room(sender, fault.answer, sum(part.end for part in batch))
             return False
@@ -279,6 +291,7 @@ class Keeper(Kept):
 
     def finish(self) -> None:
         """At the end of a run: says what is left to say, and for the next run what is joined."""
+        self.merges.stop()
         self.incoming.joined.write(self.incoming.parts.values())
         self.room.look()
         self.counts.tell_last()

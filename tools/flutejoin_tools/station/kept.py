@@ -1,9 +1,8 @@
 """The journals that a station keeps of each sender, and what is joined into them.
 
-Each sender has a large journal and a small one of recent facts, and others of further generations
-(`generations`). The small ones are taken into the large ones once they are a tenth of
-them: so a minute of datagrams doesn't rewrite everything, and what a carousel repeats takes no
-room. FDT Instances are no part of journals, but documents (`instances`).
+Each sender has some journals, and others of further generations (`levels`), which are joined when
+they are many (`merging`): so a minute of datagrams doesn't rewrite everything, and what a carousel
+repeats isn't written at all. FDT Instances are no part of journals, but documents (`instances`).
 """
 from __future__ import annotations
 
@@ -11,22 +10,26 @@ import collections
 import os
 import shutil
 import time
-from typing import Callable, Iterable, NamedTuple, Optional, Sequence, Tuple
+from functools import partial
+from typing import BinaryIO, Callable, Iterable, NamedTuple, Optional, Sequence, Tuple, Union
 
 from flutejoin_tools.common.addresses import IPAddress
 from flutejoin_tools.common.file_names import PARTIAL
 from flutejoin_tools.common.program import Answer, Program
 from flutejoin_tools.common.service_log import ServiceLog
 from flutejoin_tools.common.shell import MOST_INPUTS
-from flutejoin_tools.common.shelves import Shelf, bring_to_disk, entries_of, move, remove, size_of
+from flutejoin_tools.common.shelves import Shelf, bring_to_disk, entries_of, remove, size_of
 from flutejoin_tools.fdt.instances import Folder
 from flutejoin_tools.formats.records import HEADER, MOST, Cut, ReadFault
 from flutejoin_tools.gather.delivered import NAME, Delivered
 from flutejoin_tools.gather.gathering import told_of
-from flutejoin_tools.gather.generations import Generations, Taken, generation
+from flutejoin_tools.gather.generations import ENDING, Generations, Taken, kept_in
 from flutejoin_tools.gather.layers import Piece
 from flutejoin_tools.gather.others import Others
+from flutejoin_tools.journals.stretches import Indexes
 from flutejoin_tools.station.incoming import Incoming, Part, Sender, State, sender_in, sender_of
+from flutejoin_tools.station.levels import Levels, Spoiled
+from flutejoin_tools.station.merging import Merges
 from flutejoin_tools.station.room import Room
 
 MOST_IN_OUTBOX = 7  # journals of one sender
@@ -51,7 +54,7 @@ class Kept:
     ) -> None:
         self.folder, self.program, self.settings, self.report = folder, program, settings, report
         self.states: dict[Sender, State] = collections.defaultdict(State)
-        self.small, self.journals, self.outbox, self.raw, self.aside, self.fresh = (
+        self.recent, self.journals, self.outbox, self.raw, self.aside, self.fresh = (
             Shelf(os.path.join(folder, name))
             for name in ("recent", "journals", "outbox", "raw", "aside", "deliver")
         )
@@ -59,39 +62,21 @@ class Kept:
         self.incoming = Incoming(folder, lambda sender: bool(self.kept(sender)), same)
         self.documents = Folder(os.path.join(folder, "fdt"), program.sessions)
         self.room = Room(folder, settings.most, (self.raw, self.aside), report)
-
-    def recent(self, sender: Sender) -> Generations:
-        """The small journals of a sender."""
-        return self.generations(self.small, sender)
-
-    def large(self, sender: Sender) -> Generations:
-        return self.generations(self.journals, sender)
-
-    def generations(self, shelf: Shelf, sender: Sender) -> Generations:
-        """The journals of a sender on a shelf, as generations."""
-        def path_of(number: int) -> str:
-            return os.path.join(shelf.path, generation(sender.stem(), number))
-
-        return Generations(
-            path_of,
-            lambda path: self.put_aside(sender, path),
-            self.program.compare,
-            Delivered(os.path.join(self.folder, NAME), self.program).generations,
+        self.indexes = Indexes(program.tend)
+        self.merges = Merges(
+            *(self.journals, self.recent.path, program, self.indexes, self.free, self.refuse)
         )
 
-    def put_aside(self, sender: Sender, path: str) -> None:
-        """Keeps values that differ from what is kept."""
-        os.makedirs(self.aside.path, exist_ok=True)
+    def levels(self, sender: Sender) -> Levels:
+        """The journals of a sender."""
         stem = sender.stem()
         others = Others(lambda number: os.path.join(self.aside.path, f"{stem}.v{number}.journal"))
-        others.take(path)
-        if others.dropped:
-            told = f"{others.dropped} values that differ are left out, as too many are kept aside"
-            self.report.warn(f"{stem}: {told}")
+        of = self.journals, self.recent.path, stem, self.program, self.indexes, others
+        return Levels(*of, Delivered(os.path.join(self.folder, NAME), self.program))
 
     def kept(self, sender: Sender) -> list[str]:
         """The journals of a sender."""
-        return [*self.large(sender).kept().values(), *self.recent(sender).kept().values()]
+        return [path for of in kept_in(self.journals.path, sender.stem()).values() for path in of]
 
     def attempt(self, sender: Sender, step: Callable[[], object]) -> None:
         """Takes a step. If the system refuses it, that is reported, and it is repeated later."""
@@ -108,7 +93,7 @@ class Kept:
     def join(
         self,
         sender: Sender,
-        out: str,
+        out: Union[str, BinaryIO],
         journals: Iterable[str],
         parts: Iterable[Part] = (),
         needed: Iterable[str] = (),
@@ -134,42 +119,29 @@ class Kept:
             without_fdt,
         )
 
-    def take_one(self, sender: Sender, piece: Piece) -> bool:
-        """Takes a journal into the small journals of a sender."""
-        recent = self.recent(sender)
-        taken = self.taken(sender, recent, piece)
-        if taken is None:
-            return False
-        if taken.answer.status > 1:
-            size = size_of(piece.path) + sum(map(size_of, recent.kept().values()))
-            self.wait_for_room(sender, taken.answer, size)
-        elif taken.answer.status and self.is_at_fault(sender, [taken.path]):
-            self.set_journal_aside(sender, taken.path, taken.answer.told)
-        elif taken.answer.status:
-            # Each is valid, but together they are beyond the limits of a join.
-            self.promote(sender)
-        return taken.answer.status == 0
-
-    def taken(self, sender: Sender, into: Generations, piece: Piece) -> Optional[Taken]:
-        """Takes a journal into others. None if one of these is damaged, and set aside."""
-
-        def join(path: str, part: str) -> Answer:
-            return self.join(sender, path, [path], needed=[part])
-
-        known = self.documents.known_of(sender.stem())
+    def take_one(self, sender: Sender, piece: Piece, hand_on: Callable[[str], None]) -> bool:
+        """Keeps what is new in a journal of a sender, which is handed on before."""
+        known, levels = self.documents.known_of(sender.stem()), self.levels(sender)
         try:
-            taken = into.take(piece.path, join, piece.without, known.numbers, piece.found)
-        except (ReadFault, Cut) as fault:
-            spoiled = [path for path in into.kept().values() if self.is_at_fault(sender, [path])]
-            for path in spoiled:
-                self.set_journal_aside(sender, path, str(fault) or "Cut")
-            if not spoiled:
-                self.put_off(sender, f"{piece.path}: {str(fault) or 'Cut'}")
-            return None
+            taken = levels.take(piece, known.numbers, hand_on)
+        except Spoiled as fault:
+            if self.is_at_fault(sender, [fault.path]):
+                self.set_journal_aside(sender, fault.path, str(fault))
+            else:
+                self.put_off(sender, f"{fault.path}: {fault}")
+            return False
+        if taken.answer.status:
+            self.wait_for_room(sender, taken.answer, size_of(piece.path))
+            return False
+        if levels.others.dropped:
+            count = levels.others.dropped
+            told = f"{count} values that differ are left out, as too many are kept aside"
+            self.report.warn(f"{sender.stem()}: {told}")
         self.tell_of(sender, taken)
         known.leave_out(taken.informed)
         known.write()
-        return taken
+        self.merges.ask(sender.stem())
+        return True
 
     def tell_of(self, sender: Sender, taken: Taken) -> None:
         """Reports what did not agree."""
@@ -200,11 +172,13 @@ class Kept:
         def path_of(number: int) -> str:
             return f"{front}{number}{PARTIAL}"
 
+        def join(path: str, part: str) -> Answer:
+            return self.join(sender, path, [path], needed=[part])
+
         together = Generations(path_of, put_apart, self.program.compare)
         try:
             for path in waiting[::-1]:
-                taken = self.taken(sender, together, Piece(path))
-                if taken is None or taken.answer.status:
+                if together.take(path, join).answer.status:
                     return
             for path in [*together.kept().values(), *apart]:
                 one = self.outbox.next(sender.stem(), ".journal")
@@ -216,61 +190,36 @@ class Kept:
             for path in [*together.kept().values(), *apart]:
                 remove(path)
 
-    def promote(self, sender: Sender) -> None:
-        """Takes the small journals of a sender into its large ones."""
-        large = self.large(sender)
-        for number, path in sorted(self.recent(sender).kept().items()):
-            if not large.kept():
-                move(path, large.path_of(number))
-                bring_to_disk(large.path_of(number))
-                continue
-            taken = self.taken(sender, large, Piece(path))
-            if taken is None:
-                return
-            if taken.answer.status == 0:
-                remove(path)
-            elif taken.answer.status > 1:
-                size = size_of(taken.path) + size_of(path)
-                self.wait_for_room(sender, taken.answer, size)
-                return
-            elif self.is_at_fault(sender, [path]):
-                self.set_journal_aside(sender, path, taken.answer.told)
-                return
-            else:
-                self.close_large(sender, taken)
-                self.promote(sender)
-                return
+    def merge_all(self) -> None:
+        """Joins all journals of each sender, as far as one may have their entries."""
+        for sender in {it for it in map(sender_in, os.listdir(self.journals.path)) if it}:
+            self.merges.ask(sender.stem(), is_all=True)
 
-    def close_large(self, sender: Sender, taken: Taken) -> None:
-        """Puts a large journal away that can't grow any more, and lets another begin."""
-        if self.is_at_fault(sender, [taken.path]):
-            self.set_journal_aside(sender, taken.path, taken.answer.told)
-            return
-        kept = self.journals.take(taken.path, sender.stem())
-        told = f"{taken.answer.told}: it is kept as {kept}, and another is begun"
-        self.report.warn(f"{taken.path}: {told}")
-
-    def promote_all(self) -> None:
-        """Takes all small journals into the large ones."""
-        for sender in {it for it in map(sender_in, os.listdir(self.small.path)) if it}:
-            self.attempt(sender, lambda: self.promote(sender))
+    def refuse(self, stem: str, paths: Sequence[str], answer: Answer) -> None:
+        """Sets journals aside that a join refuses; others, which are too many, stay as they are."""
+        sender = sender_in(f"{stem}.journal")
+        for path in paths if sender else ():
+            if sender and self.is_at_fault(sender, [path]):
+                self.set_journal_aside(sender, path, answer.told)
 
     def adopt(self) -> None:
-        """Takes the journals of earlier versions' epochs into the others, by what agrees."""
-        for folder in self.small.path, self.journals.path:
+        """Takes the journals of earlier versions into the others, by what agrees: those of epochs,
+        and recent ones."""
+        for folder in self.recent.path, self.journals.path:
             for name in sorted(os.listdir(folder)):
-                found = sender_of(name.removesuffix(".journal") + ".fldg")
-                if found and found[1].epoch > 1 and name.endswith(".journal"):
-                    sender = found[0]
-                    self.attempt(sender, lambda: self.adopt_one(sender, folder, name))
+                found = sender_of(name.removesuffix(ENDING) + ".fldg")
+                sender = found[0] if found else sender_in(name)
+                is_old = folder == self.recent.path or found and found[1].epoch > 1
+                if sender and is_old and name.endswith(ENDING):
+                    path = os.path.join(folder, name)
+                    self.attempt(sender, partial(self.adopt_one, sender, path))
 
-    def adopt_one(self, sender: Sender, folder: str, name: str) -> None:
-        path = os.path.join(folder, name)
-        taken = self.taken(sender, self.large(sender), Piece(path))
-        if taken and taken.answer.status == 0:
-            remove(path)
-        elif taken:
-            self.put_off(sender, taken.answer.told)
+    def adopt_one(self, sender: Sender, path: str) -> None:
+        try:
+            if self.take_one(sender, Piece(path), lambda _: None):
+                remove(path)
+        except (ReadFault, Cut) as fault:
+            self.set_journal_aside(sender, path, str(fault) or "Cut")
 
     def is_at_fault(
         self,

@@ -14,16 +14,17 @@ runs until Ctrl-C, SIGTERM, SIGHUP (not under nohup) or --seconds, and then
 joins what is left; at a second signal it ends at once.
 
 what is in FOLDER:
-  journals/10.0.0.1.journal  what the sender 10.0.0.1 sent; of a TOI that came with
-                             other contents too, in 10.0.0.1.g2.journal, and so on
-  recent/10.0.0.1.journal    what came since: it is joined into the large one
-                             once it is a tenth of it, and at --nightly
+  journals/10.0.0.1.journal  what the sender 10.0.0.1 sent, with 10.0.0.1.TIME.journal:
+                             what came since. Some are joined once there are 48,
+                             and all at --nightly. Of a TOI that came with other
+                             contents too, in 10.0.0.1.g2.journal, and so on
+  recent/                    what is being joined
   in/                        the datagram files that are being received; the
                              last one of each sender stays
   raw/                       with --keep-raw, the newest datagram files of those
                              that are joined
-  deliver/                   with --deliver, journals of what came since the last round
-  outbox/                    with --outbox, journals of what came until somebody
+  deliver/                   with --deliver, journals of what was new since the last round
+  outbox/                    with --outbox, journals of what was new until somebody
                              takes them away; at most eight for each sender, and full ones
   fdt/                       FDT Instances, as flutejoin-gather keeps them
   aside/                     what is at fault: datagram files that were not
@@ -66,7 +67,7 @@ from flutejoin_tools.station.voice import status_of
 EPILOG = """
 examples:
   flutejoin-station --group 239.1.1.1 --port 4001 --keep-raw 2G -o news
-  flutejoin join --any-size -o - news/*/10.0.0.1.journal | flutejoin gaps --any-size -
+  flutejoin join --any-size -o - news/journals/10.0.0.1.[j2]* | flutejoin gaps --any-size -
 
 the file of settings:
   [station]                  the options below by their names, as every = 60,
@@ -112,6 +113,8 @@ class Station:
         self.tell_at, self.night = float("-inf"), self.next_night()
         folder = os.path.abspath(options.folder)
         self.lock = take_lock(folder)
+        # What a join to standard output puts aside goes to the disk that has room for it.
+        os.environ["TMPDIR"] = folder
         program = Program(find(options.flutejoin), self.tend, options.tsi or [])
         same = tuple(pair for pairs in options.same or () for pair in pairs)
         settings = Settings(
@@ -182,7 +185,7 @@ class Station:
             night = self.next_night()
             if night != self.night:  # it came, or the clock was set
                 self.night = night
-                self.keeper.promote_all()
+                self.keeper.merge_all()
             has_worked = self.keeper.work(True)
             self.report.works("joining")
             if self.service and not has_worked:
@@ -318,7 +321,7 @@ def parser_of_options() -> argparse.ArgumentParser:
         "--nightly",
         type=time_of_day,
         metavar="HH:MM",
-        help="join the recent journals into the large ones at this time too",
+        help="join all journals of each sender at this time too",
     )
     add(
         "--outbox",

@@ -8,7 +8,9 @@ import time
 from typing import Iterable, Iterator, NamedTuple, Optional
 
 from flutejoin_tools.common.disk import blocks_of
+from flutejoin_tools.common.file_names import PARTIAL
 from flutejoin_tools.common.log import Log
+from flutejoin_tools.common.shelves import NAME as TIMED
 from flutejoin_tools.common.shelves import Shelf, entries_of, remove
 from flutejoin_tools.fdt.stems import NAME as DOCUMENT
 from flutejoin_tools.station.incoming import SHARE, sender_in
@@ -17,7 +19,6 @@ LOOK_EACH = 10  # seconds between two looks at the disk
 MOST_SENDERS = 1 << 14  # that are kept with a bound, since each file also takes an inode
 MOST_TOLD = 256  # senders in the status
 SPARE = 16  # part of the bound that is made free at a time
-KINDS = {"journals": "entries", "recent": "recent entries"}  # of journals, by their folders
 GOING = "going"  # the folder of files that are removed at the next look
 
 
@@ -102,6 +103,8 @@ class Room:
     def walk(self, folder: str) -> Iterator[tuple[str, os.stat_result]]:
         for at, _, names in os.walk(folder):
             for name in names:
+                if name.endswith(PARTIAL):  # it takes the place of others, or goes
+                    continue
                 path = os.path.join(at, name)
                 try:
                     yield path, os.lstat(path)
@@ -187,10 +190,11 @@ class Room:
     def journals(self) -> tuple[dict[str, dict[str, object]], int]:
         """The journals of the senders that have most, by their names, and how many others are."""
         most = heapq.nlargest(MOST_TOLD, self.held, key=lambda stem: self.held[stem].bytes)
-        told: dict[str, dict[str, object]] = collections.defaultdict(dict)
+        counts: collections.Counter[str] = collections.Counter()
         for path in sorted(path for stem in most for path in self.held[stem].paths):
             folder, name = os.path.split(path)
-            kind = KINDS.get(os.path.basename(folder))
-            if kind and name.endswith(".journal"):
-                told[name.removesuffix(".journal")][kind] = entries_of(path)
-        return dict(told), len(self.held) - len(most)
+            if os.path.basename(folder) == "journals" and name.endswith(".journal"):
+                of = TIMED.fullmatch(name)
+                counts[of[1] if of else name.removesuffix(".journal")] += entries_of(path) or 0
+        told: dict[str, dict[str, object]] = {of: {"entries": n} for of, n in counts.items()}
+        return told, len(self.held) - len(most)

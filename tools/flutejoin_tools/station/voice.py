@@ -8,6 +8,7 @@ from typing import TYPE_CHECKING, Any, Callable, NamedTuple
 from flutejoin_tools.common.log import Log
 from flutejoin_tools.common.program import Answer, Program
 from flutejoin_tools.common.service_log import EACH
+from flutejoin_tools.station.room import MOST_TOLD
 
 if TYPE_CHECKING:
     from flutejoin_tools.station.keeping import Keeper
@@ -105,6 +106,8 @@ def status_of(keeper: Keeper) -> dict[str, Any]:
     journals, others = keeper.room.journals()
     for sender, state in keeper.states.items():
         told = journals.get(sender.stem())
+        if told is None and state.refused and len(journals) < MOST_TOLD:  # it has no journal
+            told = journals[sender.stem()] = {"entries": 0}
         if told is not None:
             told.update({"refused": state.refused, "other values": state.others})
             told["reasons"] = dict(state.reasons)
