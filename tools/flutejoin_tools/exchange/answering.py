@@ -33,8 +33,8 @@ from flutejoin_tools.formats.records import Cut, ReadFault
 from flutejoin_tools.journals import sums
 from flutejoin_tools.journals.holdings import Key
 
-# What a new journal has a part of is told again of old ones, since the centre may have let it go: of
-# journals of so many seconds, with so many bytes of sums, and of objects of so many bytes
+# What a new journal has a part of is told again of old ones, since the centre may have let it go:
+# of journals of so many seconds, with so many bytes of sums, and of objects of so many bytes
 OLD, MOST_AGAIN, MOST_OBJECT = 3600, 1 << 26, 1 << 26
 MOST_TOLD = 1 << 28  # bytes of changes after which no further journal is begun
 MOST_DOCUMENTS = 1 << 26  # bytes of FDT Instances in one answer; the next one has the others
