@@ -19,12 +19,12 @@ SOURCE = ROOT / "tests" / "library" / "library.c"
 class Installed(Case):
     def setUp(self) -> None:
         super().setUp()
-        self.place = self.path("opt/flutejoin")
+        self.place = self.path("elsewhere")
 
     def make(self, target: str) -> Run:
         """Makes it of the library that is built already."""
         words = "make", "--no-print-directory", "-s", "-C", ROOT, "-o", "library", target
-        given = f"LIBRARY={built()}", f"DESTDIR={self.folder}", "PREFIX=/opt/flutejoin"
+        given = f"LIBRARY={built()}", f"DESTDIR={self.folder}", "PREFIX=/elsewhere"
         return self.command([*words, *given], env=ALONE)
 
     def test_make(self) -> None:

@@ -67,12 +67,20 @@ pub fn pour<C: AsideCalls + Drop, W: Sink>(
     ensures failures { W.failures sink.new
         ≡ W.failures sink.old + (if is_ok result then 0 else 1) }
 {
-    let copied = copy(file, count, sink);
-    let is_empty = file.end(matches!(copied, Ok(true)));
-    match copied? {
-        true if is_empty => Ok(Poured::All),
-        true => Ok(Poured::Copied),
-        false => Ok(Poured::Part),
+    match copy(file, count, sink) {
+        Ok(true) => Ok(if file.empty() {
+            Poured::All
+        } else {
+            Poured::Copied
+        }),
+        Ok(false) => {
+            file.close();
+            Ok(Poured::Part)
+        }
+        Err(fault) => {
+            file.close();
+            Err(fault)
+        }
     }
 }
 

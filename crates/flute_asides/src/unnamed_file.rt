@@ -92,16 +92,24 @@ impl<C: AsideCalls + Drop> UnnamedFile<C> {
     }
 
     /// Takes all its bytes from the file, so that the next read or write begins at the start, and
-    /// returns whether that was done. If it is not wanted or fails, the file is closed.
-    pub fn end(&mut self, is_wanted: bool) -> bool
+    /// returns whether that was done. If it fails, the file is closed.
+    pub fn empty(&mut self) -> bool
         ensures { C.told ≡ true
             → IsEmptied (option_map C.opened self.new.file) (C.run self.new.calls).now }
     {
-        let is_empty = is_wanted && self.clear().is_ok();
+        let is_empty = self.clear().is_ok();
         if !is_empty {
-            self.file = None;
+            self.close();
         }
         is_empty
+    }
+
+    /// Closes the file: no byte of it can be read any more.
+    pub fn close(&mut self)
+        ensures { C.told ≡ true
+            → IsEmptied (option_map C.opened self.new.file) (C.run self.new.calls).now }
+    {
+        self.file = None;
     }
 
     fn clear(&mut self) -> Result<(), CallFault>
