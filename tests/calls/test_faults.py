@@ -161,7 +161,7 @@ class Faults(Writing):
         self.write("large", os.urandom(300_000))
         self.made("carousel -o many --tsi 7 --toi 9 --symbol 100 --block 64 large")
         of = "--tsi 7 --toi 9 --symbol 1400 --block 64 -"
-        joining = "join --any-size --memory 64K -o kept/there many"
+        joining = "join --any-size --memory 500K -o kept/there many"
         for words, given, text in (
             (joining, pathlib.Path("none"), f"{WRITE} what is put aside"),
             (f"carousel -o kept/there {of}", pathlib.Path("large"), WRITE),  # each read is full
