@@ -91,7 +91,7 @@ def journal_of(*inputs: object) -> bytes:
 
 
 def kept(folder: pathlib.Path) -> list[pathlib.Path]:
-    return [*folder.glob("journals/*.journal"), *folder.glob("recent/*.journal")]
+    return sorted([*folder.glob("journals/*.journal"), *folder.glob("recent/*.journal")])
 
 
 class Port:

@@ -408,7 +408,7 @@ class Joined(Standing):
             with mock.patch.object(levels.Levels, "keep", side_effect=KeyboardInterrupt):
                 of_folder.work(False)
         keep(self.news, has_outbox=True)
-        (first, *_) = kept(self.news)
+        first = self.news / f"journals/{NAME}.journal"
         have = journal_of(first, *(self.news / "outbox").iterdir())
         self.holds("it waits in the outbox", have == self.all_of(self.sent[:9]))
         self.is_all_kept(3)
