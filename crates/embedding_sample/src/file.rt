@@ -35,8 +35,8 @@ impl Datagrams for Kept {
         }
     }
 
-    // The laws that the trait asks for: taking none changes nothing, takings may follow one another,
-    // and a failure may come after any of them.
+    // The laws that the trait asks for: taking none changes nothing, takings may follow one
+    // another, and a failure may come after any of them.
     ghost none = { λ s. sym (append-nil s.datagrams.items) };
 
     ghost more = { λ s t u first next a b. b

@@ -31,7 +31,8 @@ pub trait Folder {
             ≡ failures self.old + (if is_ok result then 0 else 1) };
 
     /// Takes the first bytes of `bytes` for the file beside OUT, and returns how many: at least
-    /// one, unless `bytes` is empty. They may wait in memory, and those that did may go to the file.
+    /// one, unless `bytes` is empty. They may wait in memory, and those that did may go to the
+    /// file.
     ///
     /// # Errors
     ///

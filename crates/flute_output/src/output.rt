@@ -156,7 +156,8 @@ fn keep<F: Folder>(folder: &mut F) -> Result<(), DeviceFault>
     ensures refused { OnErr result (Leads OutStays
         (F.entries folder.old) (F.entries folder.new)) }
     ensures given { OnOk result (Leads (λ old _. Follows (replaced (Some (whole (taken old))))
-        (F.moments folder.old) (F.moments folder.new)) (F.entries folder.old) (F.entries folder.new)) }
+        (F.moments folder.old) (F.moments folder.new))
+        (F.entries folder.old) (F.entries folder.new)) }
     ensures steady { OnErr result (Steady (F.moments folder.old) (F.moments folder.new)) }
     ensures failures { F.failures folder.new
         ≡ F.failures folder.old + (if is_ok result then 0 else 1) }

@@ -130,7 +130,8 @@ impl<C: Calls + Drop> WaitingFile<C> {
         ensures whole { OnOk result (self.old.is_broken ≡ false) }
         ensures goes_on { C.told ≡ true → GoesOn (option_map C.number self.old.file) []
             (writing self.old.taken self.old.is_broken self.old.waiting.items (C.run calls.old).now)
-            (writing self.new.taken self.new.is_broken self.new.waiting.items (C.run calls.new).now) }
+            (writing self.new.taken self.new.is_broken self.new.waiting.items
+            (C.run calls.new).now) }
         ensures broken { OnErr result (self.new.is_broken ≡ true) }
         ensures open { OnOk result (IsSome self.old.file) }
         ensures failures { self.new.failures ≡ self.old.failures }
@@ -190,11 +191,13 @@ impl<C: Calls + Drop> WaitingFile<C> {
         ensures goes_on { C.told ≡ true → IfOk result (λ n. GoesOn
             (option_map C.number self.old.file) (take n bytes.now)
             (writing self.old.taken self.old.is_broken self.old.waiting.items (C.run calls.old).now)
-            (writing self.new.taken self.new.is_broken self.new.waiting.items (C.run calls.new).now)) }
+            (writing self.new.taken self.new.is_broken self.new.waiting.items
+            (C.run calls.new).now)) }
         ensures refused { C.told ≡ true → OnErr result (GoesOn
             (option_map C.number self.old.file) []
             (writing self.old.taken self.old.is_broken self.old.waiting.items (C.run calls.old).now)
-            (writing self.new.taken self.new.is_broken self.new.waiting.items (C.run calls.new).now)) }
+            (writing self.new.taken self.new.is_broken self.new.waiting.items
+            (C.run calls.new).now)) }
         ensures any_moment { C.told ≡ true → Always
             (LeavesOthers (option_map C.number self.old.file) (C.run calls.old).now)
             (C.run calls.old) (C.run calls.new) }

@@ -89,7 +89,8 @@ impl Changes {
     /// `AllocError` if that is not known, as there was no memory.
     pub fn of_name(&self, name: &str) -> Result<Option<&Change>, AllocError>
         ensures { IfOk result (λ found. (rest : List NamedFile) → MatchOption found
-            (files_of (names_of self.now.told.changed.closed ++ rest) name.now ≡ files_of rest name.now)
+            (files_of (names_of self.now.told.changed.closed ++ rest) name.now
+            ≡ files_of rest name.now)
             (λ change. files_of (names_of self.now.told.changed.closed ++ rest) name.now
             ≡ (changed change.now).bytes)) }
     {

@@ -1,4 +1,5 @@
-//! What became of a world, for contracts alone. It has no size, and its calls do nothing at run time.
+//! What became of a world, for contracts alone. It has no size, and its calls do nothing at run
+//! time.
 ghost use Rattle.std.specs.Prelude.{◌≡◌};
 ghost use Rattle.std.specs.Borrow.{ftrue};
 ghost use Rattle.flute_memory.specs.Memory.{memory_entries};

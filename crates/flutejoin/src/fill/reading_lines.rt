@@ -74,8 +74,8 @@ fn read_gap(words: &[u8]) -> Option<Gap>
 }
 
 // The gap whose line a text may be. Its numbers were read, and are below 65,536 each (`HasIds`);
-// its reason is guessed by the length of the word. The caller makes the gap's line again and compares
-// it with the text, since the word itself was not read.
+// its reason is guessed by the length of the word. The caller makes the gap's line again and
+// compares it with the text, since the word itself was not read.
 fn gap_in(text: &[u8]) -> Option<Gap>
     ensures valid { IfSome result HasIds }
     ensures finds { (gap : GapValue) → HasIds gap → line text.now ≡ gap_line gap
